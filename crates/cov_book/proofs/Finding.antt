@@ -1,0 +1,182 @@
+-- Finding the first sum past the limit.
+use Rattle.std.proofs.Common.{◌≡◌, ℕ, zero, suc, ◌+◌, ◌-◌, ◌<◌, ◌≤◌, Bool, true, false, List, [], ◌∷◌, ◌++◌, map, refl, sym, ap, ◌∙◌, subst, arith}
+use Rattle.std.specs.Prelude.{Option, None, Some, option_map, min, nat_le, nat_lt, cond, find, filter, filter_map, flat_map, sum_by, unwrap_or, if◌then◌else◌, ◌&&◌, ◌^◌}
+use Rattle.std.specs.List.{list_all}
+use Rattle.std.specs.Option.{option_or}
+use Rattle.std.specs.BTreeSet.{insert_key}
+use Rattle.std.proofs.lemmas.List.Folds.{find-append}
+use Rattle.std.proofs.lemmas.List.{append-nil}
+use Rattle.std.proofs.lemmas.Bool.Decides.{nat_tests}
+use Rattle.std.proofs.lemmas.Grind.{flat_map-append}
+use Rattle.std.proofs.lemmas.List.Sums.{sum_by-append, sum_by-cons}
+use Rattle.cov_model.specs.declared.report.FunctionReport.{FunctionReport}
+use Rattle.cov_model.specs.declared.snapshot.Entry.{Entry}
+use Rattle.cov_model.specs.declared.snapshot.Snapshot.{Snapshot}
+use Rattle.cov_model.specs.declared.sums.Key.{Key}
+use Rattle.cov_model.specs.declared.sums.At.{At}
+use Rattle.cov_model.specs.declared.sums.At.TheVariants.{Root, Offset}
+use Rattle.cov_model.specs.declared.sums.SumFault.{SumFault}
+use Rattle.cov_text.specs.Listing.{inserted, counted, offsets}
+use Rattle.cov_model.specs.Nesting.{inner_count, or_else}
+use Rattle.cov_model.specs.Sums.{fits, sums, sum_at, sum_fault, passes_limit, limit, points, keys, keys_in_order, file_order, key_of, is_of, reports, root, total, root_count}
+use Rattle.cov_model.proofs.Grows.{fits-each, is_within_limit}
+use Rattle.cov_book.specs.Counts.{capped, weight, in_report, in_script, in_snapshot, first_point, first_sum, fault_with, with_script, with_scripts}
+
+inserted-append : (xs ys : List Key) (known : List Key) → inserted file_order known (xs ++ ys) ≡ inserted file_order (inserted file_order known xs) ys
+inserted-append [] ys known = refl
+inserted-append (x ∷ xs) ys known = inserted-append xs ys (insert_key file_order known x)
+
+-- one script more, and one snapshot more
+pub with_scripts_more : (known : List Key) (entry : Entry) (rest : List Entry) → with_scripts known (entry ∷ rest) ≡ with_scripts (with_script known entry.url entry.functions) rest
+with_scripts_more known entry rest = inserted-append (filter_map (key_of entry.url) entry.functions) (flat_map (λ (e : Entry). filter_map (key_of e.url) e.functions) rest) known
+
+keys-of-scripts : Snapshot → List Key
+keys-of-scripts snapshot = flat_map (λ (entry : Entry). filter_map (key_of entry.url) entry.functions) snapshot
+
+pub keys_more : (held : List Snapshot) (snapshot : Snapshot) → keys_in_order (held ++ snapshot ∷ []) ≡ with_scripts (keys_in_order held) snapshot
+unfolding keys-of-scripts
+keys_more held snapshot =
+    ap (inserted file_order []) (flat_map-append keys-of-scripts held (snapshot ∷ []))
+    ∙ inserted-append (keys held) (keys-of-scripts snapshot ++ []) []
+    ∙ ap (inserted file_order (keys_in_order held)) (append-nil (keys-of-scripts snapshot))
+
+offsets-more : (o end : ℕ) → o < end → offsets o end ≡ o ∷ offsets (o + 1) end
+offsets-more o end l =
+    let n : end - o ≡ suc (end - (o + 1)) = omega arith in
+    let next : suc o ≡ o + 1 = omega arith in
+    ap (counted o) n ∙ ap (λ k. o ∷ counted k (end - (o + 1))) next
+
+pub point_more : (held : List Snapshot) (snapshot : Snapshot) (key : Key) (o end : ℕ) → o < end
+    → false ≡ nat_lt limit (sum_by (in_snapshot key (Offset o)) (held ++ snapshot ∷ []))
+    → first_point held snapshot key (map Offset (offsets o end)) ≡ first_point held snapshot key (map Offset (offsets (o + 1) end))
+point_more held snapshot key o end l under =
+    ap (λ os. first_point held snapshot key (map Offset os)) (offsets-more o end l)
+    ∙ ap (λ b. cond b (Some (Offset o)) (first_point held snapshot key (map Offset (offsets (o + 1) end)))) (sym under)
+
+or-assoc : {A : Type 0} (a b c : Option A) → or_else a (or_else b c) ≡ or_else (or_else a b) c
+or-assoc None b c = refl
+or-assoc (Some x) b c = refl
+
+or-none : {A : Type 0} (a : Option A) → or_else a None ≡ a
+or-none None = refl
+or-none (Some x) = refl
+
+pub first_sum-push : (held : List Snapshot) (snapshot : Snapshot) (ks : List Key) (key : Key)
+    → first_sum held snapshot (ks ++ key ∷ []) ≡ or_else (first_sum held snapshot ks) (option_map (fault_with held snapshot key) (first_point held snapshot key (points key)))
+first_sum-push held snapshot [] key = or-none (option_map (fault_with held snapshot key) (first_point held snapshot key (points key)))
+first_sum-push held snapshot (k ∷ ks) key =
+    ap (or_else (option_map (fault_with held snapshot k) (first_point held snapshot k (points k)))) (first_sum-push held snapshot ks key)
+    ∙ or-assoc (option_map (fault_with held snapshot k) (first_point held snapshot k (points k))) (first_sum held snapshot ks) _
+
+-- ---- the sums as the definitions have them
+
+sum-flat : {A B : Type 0} (f : B → ℕ) (g : A → List B) (xs : List A) → sum_by f (flat_map g xs) ≡ sum_by (λ x. sum_by f (g x)) xs
+sum-flat f g [] = refl
+sum-flat f g (x ∷ xs) =
+    sum_by-append f (g x) (flat_map g xs) ∙ ap (λ n. sum_by f (g x) + n) (sum-flat f g xs) ∙ sym (sum_by-cons (λ y. sum_by f (g y)) x xs)
+
+sum-each : {A : Type 0} (f g : A → ℕ) → ((x : A) → f x ≡ g x) → (xs : List A) → sum_by f xs ≡ sum_by g xs
+sum-each f g h [] = refl
+sum-each f g h (x ∷ xs) = sum_by-cons f x xs ∙ ap (λ n. n + sum_by f xs) (h x) ∙ ap (λ n. g x + n) (sum-each f g h xs) ∙ sym (sum_by-cons g x xs)
+
+sum-cond : (b : Bool) (w : FunctionReport → ℕ) (f : FunctionReport) (fs : List FunctionReport) → sum_by w (cond b (f ∷ fs) fs) ≡ cond b (w f) 0 + sum_by w fs
+sum-cond true w f fs = sum_by-cons w f fs
+sum-cond false w f fs = omega arith
+
+one-script : (w : FunctionReport → ℕ) (p : FunctionReport → Bool) (fs : List FunctionReport) → sum_by w (filter p fs) ≡ sum_by (λ f. cond (p f) (w f) 0) fs
+one-script w p [] = refl
+one-script w p (f ∷ fs) =
+    sum-cond (p f) w f (filter p fs) ∙ ap (λ n. cond (p f) (w f) 0 + n) (one-script w p fs) ∙ sym (sum_by-cons (λ g. cond (p g) (w g) 0) f fs)
+
+sum-reports : (key : Key) (at : At) (held : List Snapshot) → sum_by (weight at) (reports held key) ≡ sum_by (in_snapshot key at) held
+unfolding reports
+sum-reports key at held =
+    sum-flat (weight at) (λ (snapshot : Snapshot). flat_map (λ (entry : Entry). filter (is_of key entry.url) entry.functions) snapshot) held
+    ∙ sum-each _ (in_snapshot key at)
+    (λ snapshot. sum-flat (weight at) (λ (entry : Entry). filter (is_of key entry.url) entry.functions) snapshot
+    ∙ sum-each _ (in_script key at) (λ entry. one-script (weight at) (is_of key entry.url) entry.functions) snapshot)
+    held
+
+pub sum-is : (held : List Snapshot) (key : Key) (at : At) → sum_at held key at ≡ sum_by (in_snapshot key at) held
+unfolding root total
+sum-is held key Root = sum-reports key Root held
+sum-is held key (Offset o) = sum-reports key (Offset o) held
+
+-- ---- the first sum past the limit
+
+told : List Snapshot → Snapshot → Key × At → SumFault
+told held snapshot at =
+    record { key = at.0; at = at.1; held = sum_at held at.0 at.1; added = min (sum_at (snapshot ∷ []) at.0 at.1) (2 ^ 128 - 1) }
+
+find-each : {A : Type 0} (p q : A → Bool) → ((x : A) → p x ≡ q x) → (xs : List A) → find p xs ≡ find q xs
+find-each p q h [] = refl
+find-each p q h (x ∷ xs) = ap (λ b. cond b (Some x) (find p xs)) (h x) ∙ ap (cond (q x) (Some x)) (find-each p q h xs)
+
+cond-some : {A B : Type 0} (f : A → B) (b : Bool) (x : A) (o : Option A) → cond b (Some (f x)) (option_map f o) ≡ option_map f (cond b (Some x) o)
+cond-some f true x o = refl
+cond-some f false x o = refl
+
+find-map : {A B : Type 0} (p : B → Bool) (f : A → B) (xs : List A) → find p (map f xs) ≡ option_map f (find (λ x. p (f x)) xs)
+find-map p f [] = refl
+find-map p f (x ∷ xs) = ap (cond (p (f x)) (Some (f x))) (find-map p f xs) ∙ cond-some f (p (f x)) x (find (λ y. p (f y)) xs)
+
+both-true : (a b : Bool) → (a && b) ≡ true → (a ≡ true) × (b ≡ true)
+both-true true b e = (refl, e)
+both-true false b e = absurd cc
+
+found-same : {A B : Type 0} (f g : A → B) (b : Bool) (x : A) (o : Option A) → f x ≡ g x → option_map f o ≡ option_map g o → option_map f (cond b (Some x) o) ≡ option_map g (cond b (Some x) o)
+found-same f g true x o e h = ap Some e
+found-same f g false x o e h = h
+
+find-same : {A B : Type 0} (p q : A → Bool) (f g : A → B) → ((x : A) → q x ≡ true → f x ≡ g x) → (xs : List A) → list_all q xs ≡ true → option_map f (find p xs) ≡ option_map g (find p xs)
+find-same p q f g h [] e = refl
+find-same p q f g h (x ∷ xs) e =
+    let r = both-true (q x) (list_all q xs) e in
+    found-same f g (p x) x (find p xs) (h x r.0) (find-same p q f g h xs r.1)
+
+map-map : {A B C : Type 0} (f : B → C) (g : A → B) (o : Option A) → option_map f (option_map g o) ≡ option_map (λ x. f (g x)) o
+map-map f g None = refl
+map-map f g (Some x) = refl
+
+map-or : {A B : Type 0} (f : A → B) (o q : Option A) → option_map f (option_or o q) ≡ or_else (option_map f o) (option_map f q)
+map-or f None q = refl
+map-or f (Some x) q = refl
+
+within-min : (n m : ℕ) → nat_le n m ≡ true → min n m ≡ n
+within-min n m e = grind (arith, nat_tests)
+
+told-same : (held : List Snapshot) (snapshot : Snapshot) (key : Key) (at : At) → nat_le (sum_at held key at) limit ≡ true → told held snapshot (key, at) ≡ fault_with held snapshot key at
+unfolding told
+told-same held snapshot key at e =
+    let one : sum_by (in_snapshot key at) (snapshot ∷ []) ≡ in_snapshot key at snapshot = sum_by-cons (in_snapshot key at) snapshot [] ∙ omega arith in
+    let before : sum_at held key at ≡ min (sum_by (in_snapshot key at) held) limit = sym (within-min (sum_at held key at) limit e) ∙ ap (λ n. min n limit) (sum-is held key at) in
+    let more : min (sum_at (snapshot ∷ []) key at) (2 ^ 128 - 1) ≡ capped (in_snapshot key at snapshot) = ap capped (sum-is (snapshot ∷ []) key at ∙ one) in
+    (λ i. record { key = key; at = at; held = before i; added = more i })
+
+one-key : (held : List Snapshot) (snapshot : Snapshot) (key : Key) → fits held ≡ true
+    → option_map (told held snapshot) (find (passes_limit (held ++ snapshot ∷ [])) (map (λ point. (key, point)) (points key)))
+    ≡ option_map (fault_with held snapshot key) (first_point held snapshot key (points key))
+one-key held snapshot key fit =
+    let both = held ++ snapshot ∷ [] in
+    ap (option_map (told held snapshot)) (find-map (passes_limit both) (λ point. (key, point)) (points key))
+    ∙ map-map (told held snapshot) (λ point. (key, point)) (find (λ at. passes_limit both (key, at)) (points key))
+    ∙ find-same (λ at. passes_limit both (key, at)) (λ at. nat_le (sum_at held key at) limit) (λ at. told held snapshot (key, at)) (fault_with held snapshot key)
+    (λ at e. told-same held snapshot key at e) (points key) (fits-each held fit key)
+    ∙ ap (option_map (fault_with held snapshot key))
+    (find-each (λ at. passes_limit both (key, at)) (λ at. nat_lt limit (sum_by (in_snapshot key at) both)) (λ at. ap (nat_lt limit) (sum-is both key at)) (points key))
+
+all-keys : (held : List Snapshot) (snapshot : Snapshot) → fits held ≡ true → (ks : List Key)
+    → option_map (told held snapshot) (find (passes_limit (held ++ snapshot ∷ [])) (flat_map (λ key. map (λ point. (key, point)) (points key)) ks)) ≡ first_sum held snapshot ks
+all-keys held snapshot fit [] = refl
+all-keys held snapshot fit (k ∷ ks) =
+    let both = held ++ snapshot ∷ [] in
+    let rest = flat_map (λ key. map (λ point. (key, point)) (points key)) ks in
+    let here = map (λ point. (k, point)) (points k) in
+    ap (option_map (told held snapshot)) (find-append (passes_limit both) here rest)
+    ∙ map-or (told held snapshot) (find (passes_limit both) here) (find (passes_limit both) rest)
+    ∙ ap (λ o. or_else o (option_map (told held snapshot) (find (passes_limit both) rest))) (one-key held snapshot k fit)
+    ∙ ap (or_else (option_map (fault_with held snapshot k) (first_point held snapshot k (points k)))) (all-keys held snapshot fit ks)
+
+pub fault-is : (held : List Snapshot) (snapshot : Snapshot) → fits held ≡ true → sum_fault held snapshot ≡ first_sum held snapshot (keys_in_order (held ++ snapshot ∷ []))
+unfolding sum_fault told
+fault-is held snapshot fit = all-keys held snapshot fit (keys_in_order (held ++ snapshot ∷ []))

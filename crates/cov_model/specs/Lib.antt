@@ -1,0 +1,13 @@
+pub mod Nesting
+pub mod Sums
+pub mod Normal
+pub mod Nested
+pub mod File
+pub mod Reading
+pub mod Files
+pub mod Held
+pub mod Members
+pub mod Gives
+pub mod Outcome
+pub mod Laws
+pub mod Examples
