@@ -4,9 +4,11 @@
 pub mod laws;
 mod report;
 mod snapshot;
+mod steps;
 mod sums;
 
 pub use cov_text::{Items, MAX_TEXT, Text};
 pub use report::{FunctionReport, Range, RangeFault};
 pub use snapshot::{Entry, Field, Place, ShapeFault, Snapshot, TextFault};
+pub use steps::Steps;
 pub use sums::{Answer, At, Key, SumFault};
