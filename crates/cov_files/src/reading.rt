@@ -3,14 +3,15 @@ ghost use Rattle.std.specs.Prelude.{◌≡◌, Some, Err, IfOk, IfErr};
 ghost use Rattle.serde_json.specs.View.{view};
 ghost use Rattle.cov_model.specs.Gives.{GivesText};
 ghost use Rattle.cov_model.specs.Reading.{reading, parsed};
-ghost use Rattle.cov_messages.specs.Answers.{GivesValue};
+ghost use Rattle.cov_files.specs.Answers.{GivesValue};
 
-use crate::snapshot::snapshot_of;
+use cov_messages::snapshot_of;
 use cov_model::{MAX_TEXT, ShapeFault, Snapshot, TextFault};
 use serde_json::Value;
 use std::alloc::Global;
 
-/// The snapshot that a text is, or its first fault.
+/// The snapshot that a text is, or its first fault. `TooLong` comes exactly past 134,217,728 bytes, `Syntax` exactly
+/// where shorter bytes are no JSON text, and `Shape` names the first check that the JSON value fails.
 #[tactic(auto, unfolding(cov_model::specs::Reading::reading))]
 pub fn read_snapshot(alloc: Global, bytes: &[u8]) -> Result<Snapshot, TextFault>
     ensures { GivesText result (reading bytes.now) }

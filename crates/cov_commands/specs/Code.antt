@@ -1,0 +1,12 @@
+-- The statuses of the program.
+use Rattle.std.specs.Prelude.{ℕ}
+use Rattle.cov_commands.specs.declared.ended.Ended.{Ended}
+use Rattle.cov_commands.specs.declared.ended.Ended.TheVariants.{Done, Usage, SomeRefused, ReadFault, WriteFault, NoMemory}
+
+abbrev pub code_of : Ended → ℕ
+code_of Done = 0
+code_of Usage = 2
+code_of SomeRefused = 3
+code_of ReadFault = 4
+code_of WriteFault = 5
+code_of NoMemory = 6

@@ -1,0 +1,55 @@
+-- How a command ends, and what it then leaves.
+use Rattle.std.specs.Prelude.{◌≡◌, ℕ, List, [], ◌++◌, take, Option, codes}
+use Rattle.std.specs.Io.KnownBytes.{Appends}
+use Rattle.cov_io.specs.Causes.{Rose}
+use Rattle.cov_io.specs.declared.store.StoreFault.{StoreFault}
+use Rattle.cov_io.specs.declared.store.StoreFault.TheVariants as store
+use Rattle.cov_io.specs.declared.store.StoreFault.TheVariants.{Failed, Absent}
+use Rattle.cov_commands.specs.declared.ended.Ended.{Ended}
+use Rattle.cov_commands.specs.declared.ended.Ended.TheVariants.{Done, Usage, SomeRefused, ReadFault, WriteFault, NoMemory}
+
+-- it came to its end
+abbrev pub IsFinished : Ended → Type 0
+IsFinished Done = Unit {0}
+IsFinished Usage = ⊥
+IsFinished SomeRefused = Unit {0}
+IsFinished ReadFault = ⊥
+IsFinished WriteFault = ⊥
+IsFinished NoMemory = ⊥
+
+-- the last line on the error sink of a command that didn't
+abbrev pub last_line : Ended → List ℕ
+last_line Done = []
+last_line Usage = codes "usage: merge same normal report check make collect serve attach run\n"
+last_line SomeRefused = []
+last_line ReadFault = codes "fault: read\n"
+last_line WriteFault = codes "fault: write\n"
+last_line NoMemory = codes "fault: memory\n"
+
+-- told bytes grow by a prefix of the first text, and then by a prefix of the second
+abbrev pub AppendsParts : Option (List ℕ) → Option (List ℕ) → List ℕ → List ℕ → Type 0
+AppendsParts before now first second = (m : ℕ) × (n : ℕ) × Appends before now (take m first ++ take n second)
+
+-- how a fault of the store ends a command
+abbrev pub IsEndedBy : StoreFault → Ended → Type 0
+IsEndedBy Failed ended = ended ≡ ReadFault
+IsEndedBy Absent ended = ended ≡ ReadFault
+IsEndedBy store.NoMemory ended = ended ≡ NoMemory
+
+-- what a fault says: the cause of each, and nothing of want of memory
+abbrev pub HasWriteCause : ℕ → ℕ → Ended → Type 0
+HasWriteCause before now Done = ⊥
+HasWriteCause before now Usage = ⊥
+HasWriteCause before now SomeRefused = ⊥
+HasWriteCause before now ReadFault = ⊥
+HasWriteCause before now WriteFault = Rose before now
+HasWriteCause before now NoMemory = Unit {0}
+
+-- the words were taken
+abbrev pub IsMergeEnd : Ended → Type 0
+IsMergeEnd Done = Unit {0}
+IsMergeEnd Usage = ⊥
+IsMergeEnd SomeRefused = Unit {0}
+IsMergeEnd ReadFault = Unit {0}
+IsMergeEnd WriteFault = Unit {0}
+IsMergeEnd NoMemory = Unit {0}

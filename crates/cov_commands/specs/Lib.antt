@@ -1,0 +1,5 @@
+pub mod Code
+pub mod Lines
+pub mod Due
+pub mod Ends
+pub mod Gather

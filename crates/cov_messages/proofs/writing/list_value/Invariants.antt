@@ -1,0 +1,10 @@
+use Rattle.std.proofs.Common.{◌≡◌, drop}
+use Rattle.std.specs.Prelude.{map}
+use Rattle.serde_json.specs.View.{view}
+use Rattle.cov_model.specs.File.{array_of}
+use Rattle.cov_messages.proofs.Written.{ahead}
+use Rattle.cov_messages.proofs.writing.list_value.Given as goal
+
+-- the values so far, and those of the rest, are those of all
+abbrev pub invariant-loop-item : goal.invariant-loop-item
+invariant-loop-item g l = ahead (map view l.values.items) (array_of g.T.Shown.data (drop l.item-index l.items)) ≡ array_of g.T.Shown.data l.items
