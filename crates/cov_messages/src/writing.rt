@@ -10,14 +10,14 @@ use std::alloc::{AllocError, Global};
 
 // What has a JSON value of its own.
 trait Shown {
-    ghost data: { Self → Data };
+    ghost shown: { Self → Data };
 
     fn value(&self, alloc: Global) -> Result<Value, AllocError>
-        ensures { IfOk result (λ value. view value ≡ data self.now) };
+        ensures { IfOk result (λ value. view value ≡ shown self.now) };
 }
 
 impl Shown for Range {
-    ghost data = { range_data };
+    ghost shown = { range_data };
 
     fn value(&self, alloc: Global) -> Result<Value, AllocError> {
         json!(in alloc; {"count": self.count, "endOffset": self.end, "startOffset": self.start})
@@ -25,7 +25,7 @@ impl Shown for Range {
 }
 
 impl Shown for FunctionReport {
-    ghost data = { report_data };
+    ghost shown = { report_data };
 
     fn value(&self, alloc: Global) -> Result<Value, AllocError> {
         let ranges = list_value(alloc, self.ranges.as_slice())?;
@@ -34,9 +34,8 @@ impl Shown for FunctionReport {
     }
 }
 
-#[tactic(auto, using(crate::proofs::Written::ahead_more))]
 fn list_value<T: Shown>(alloc: Global, items: &[T]) -> Result<Value, AllocError>
-    ensures { IfOk result (λ value. view value ≡ array (array_of T.data items.now)) }
+    ensures { IfOk result (λ value. view value ≡ array (array_of T.shown items.now)) }
 {
     let mut values = Vec::new(alloc);
     for item in items {
@@ -57,12 +56,13 @@ fn entry_value(alloc: Global, place: usize, entry: &Entry) -> Result<Value, Allo
 
 /// The JSON list of a snapshot's scripts, each with its functions and their ranges, in their own order. Members stand
 /// in byte order of their names, and `scriptId` is the place in the list, in decimal.
-#[tactic(auto, using(crate::proofs::Written::ahead_more), unfolding(cov_model::specs::File::scripts_data))]
+
 pub fn scripts_value(alloc: Global, snapshot: &Snapshot) -> Result<Value, AllocError>
     ensures { IfOk result (λ value. view value ≡ scripts_data snapshot.now) }
 {
     let mut values = Vec::new(alloc);
-    for (place, entry) in snapshot.scripts().iter().enumerate() {
+    let scripts = snapshot.scripts();
+    for (place, entry) in scripts.iter().enumerate() {
         values.push(entry_value(alloc, place, entry)?)?;
     }
     Ok(Value::Array(values))

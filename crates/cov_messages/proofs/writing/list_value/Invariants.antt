@@ -7,4 +7,4 @@ use Rattle.cov_messages.proofs.writing.list_value.Given as goal
 
 -- the values so far, and those of the rest, are those of all
 abbrev pub invariant-loop-item : goal.invariant-loop-item
-invariant-loop-item g l = ahead (map view l.values.items) (array_of g.T.Shown.data (drop l.item-index l.items)) ≡ array_of g.T.Shown.data l.items
+invariant-loop-item g l = ahead (map view l.values.items) (array_of g.T.Shown.shown (drop l.item-index l.items)) ≡ array_of g.T.Shown.shown l.items

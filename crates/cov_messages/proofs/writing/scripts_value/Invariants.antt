@@ -7,4 +7,4 @@ use Rattle.cov_messages.proofs.writing.scripts_value.Given as goal
 
 -- the scripts so far, and those of the rest, are those of all
 abbrev pub invariant-loop-place : goal.invariant-loop-place
-invariant-loop-place l = ahead (map view l.values.items) (entries_data l.place (drop l.place l.snapshot)) ≡ entries_data 0 l.snapshot
+invariant-loop-place l = ahead (map view l.values.items) (entries_data l.place (drop l.place l.scripts)) ≡ entries_data 0 l.scripts
