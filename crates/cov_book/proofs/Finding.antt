@@ -1,6 +1,6 @@
 -- Finding the first sum past the limit.
-use Rattle.std.proofs.Common.{◌≡◌, ℕ, zero, suc, ◌+◌, ◌-◌, ◌<◌, ◌≤◌, Bool, true, false, List, [], ◌∷◌, ◌++◌, map, refl, sym, ap, ◌∙◌, subst, arith}
-use Rattle.std.specs.Prelude.{Option, None, Some, option_map, min, nat_le, nat_lt, cond, find, filter, filter_map, flat_map, sum_by, unwrap_or, if◌then◌else◌, ◌&&◌, ◌^◌}
+use Rattle.std.proofs.Common.{◌≡◌, ℕ, suc, ◌+◌, ◌-◌, ◌<◌, Bool, true, false, List, [], ◌∷◌, ◌++◌, map, refl, sym, ap, ◌∙◌, arith}
+use Rattle.std.specs.Prelude.{Option, None, Some, option_map, min, nat_le, nat_lt, cond, find, filter, filter_map, flat_map, sum_by, ◌&&◌, ◌^◌}
 use Rattle.std.specs.List.{list_all}
 use Rattle.std.specs.Option.{option_or}
 use Rattle.std.specs.BTreeSet.{insert_key}
@@ -17,10 +17,10 @@ use Rattle.cov_model.specs.declared.sums.At.{At}
 use Rattle.cov_model.specs.declared.sums.At.TheVariants.{Root, Offset}
 use Rattle.cov_model.specs.declared.sums.SumFault.{SumFault}
 use Rattle.cov_text.specs.Listing.{inserted, counted, offsets}
-use Rattle.cov_model.specs.Nesting.{inner_count, or_else}
-use Rattle.cov_model.specs.Sums.{fits, sums, sum_at, sum_fault, passes_limit, limit, points, keys, keys_in_order, file_order, key_of, is_of, reports, root, total, root_count}
-use Rattle.cov_model.proofs.Grows.{fits-each, is_within_limit}
-use Rattle.cov_book.specs.Counts.{capped, weight, in_report, in_script, in_snapshot, first_point, first_sum, fault_with, with_script, with_scripts}
+use Rattle.cov_model.specs.Nesting.{or_else}
+use Rattle.cov_model.specs.Sums.{fits, sum_at, sum_fault, passes_limit, limit, points, keys, keys_in_order, file_order, key_of, is_of, reports, root, total}
+use Rattle.cov_model.proofs.Grows.{fits-each}
+use Rattle.cov_book.specs.Counts.{capped, weight, in_script, in_snapshot, first_point, first_sum, fault_with, with_script, with_scripts}
 
 inserted-append : (xs ys : List Key) (known : List Key) → inserted file_order known (xs ++ ys) ≡ inserted file_order (inserted file_order known xs) ys
 inserted-append [] ys known = refl

@@ -1,5 +1,5 @@
 -- Sums as code counts them.
-use Rattle.std.specs.Prelude.{ℕ, ◌^◌, ◌-◌, min, Bool, List, [], ◌∷◌, ◌++◌, filter_map, flat_map, find, Option, None, option_map, nat_lt, if◌then◌else◌, sum_by}
+use Rattle.std.specs.Prelude.{ℕ, ◌^◌, ◌-◌, min, List, [], ◌∷◌, ◌++◌, filter_map, flat_map, find, Option, None, option_map, nat_lt, if◌then◌else◌, sum_by}
 use Rattle.cov_model.specs.declared.report.FunctionReport.{FunctionReport}
 use Rattle.cov_model.specs.declared.snapshot.Entry.{Entry}
 use Rattle.cov_model.specs.declared.snapshot.Snapshot.{Snapshot}
@@ -9,7 +9,7 @@ use Rattle.cov_model.specs.declared.sums.At.TheVariants.{Root, Offset}
 use Rattle.cov_text.specs.Listing.{inserted}
 use Rattle.cov_model.specs.declared.sums.SumFault.{SumFault}
 use Rattle.cov_model.specs.Nesting.{inner_count, or_else}
-use Rattle.cov_model.specs.Sums.{limit, root_count, sum_at, is_of, key_of, keys, points, file_order}
+use Rattle.cov_model.specs.Sums.{limit, root_count, is_of, key_of, keys, points, file_order}
 
 abbrev pub capped : ℕ → ℕ
 capped n = min n (2 ^ 128 - 1)
