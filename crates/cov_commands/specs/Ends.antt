@@ -17,6 +17,15 @@ IsFinished ReadFault = ⊥
 IsFinished WriteFault = ⊥
 IsFinished NoMemory = ⊥
 
+-- it came to its end, or there was no memory for it
+abbrev pub IsFinishedOrShort : Ended → Type 0
+IsFinishedOrShort Done = Unit {0}
+IsFinishedOrShort Usage = ⊥
+IsFinishedOrShort SomeRefused = Unit {0}
+IsFinishedOrShort ReadFault = ⊥
+IsFinishedOrShort WriteFault = ⊥
+IsFinishedOrShort NoMemory = Unit {0}
+
 -- the last line on the error sink of a command that didn't
 abbrev pub last_line : Ended → List ℕ
 last_line Done = []

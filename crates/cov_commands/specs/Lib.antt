@@ -3,3 +3,4 @@ pub mod Lines
 pub mod Due
 pub mod Ends
 pub mod Gather
+pub mod Sure

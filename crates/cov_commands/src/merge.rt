@@ -62,14 +62,7 @@ pub fn gather<S: Store>(
         refused: false,
     };
     for name in names.as_slice() {
-        if let Err(ended) = take_name(
-            alloc,
-            store,
-            book,
-            &mut merged,
-            folder,
-            name.as_str(),
-        ) {
+        if let Err(ended) = take_name(alloc, store, book, &mut merged, folder, name.as_str()) {
             return Err(ended);
         }
     }
@@ -164,11 +157,7 @@ fn take_text(
     Ok(!matches!(&answer, Answer::Taken))
 }
 
-fn answer_of(
-    alloc: Global,
-    book: &mut Book,
-    bytes: &[u8],
-) -> Result<Answer, AllocError>
+fn answer_of(alloc: Global, book: &mut Book, bytes: &[u8]) -> Result<Answer, AllocError>
     ensures book { OnOk result ((held : List Snapshot) → StandsFor book.old held
         → StandsFor book.new (after held (reading bytes.now))) }
     ensures answer { IfOk result (λ answer. (held : List Snapshot) → StandsFor book.old held

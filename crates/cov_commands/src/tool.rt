@@ -1,11 +1,12 @@
 //! The commands that read folders and files.
-ghost use Rattle.std.specs.Prelude.{◌≡◌, ◌≤◌, ◌⊎◌, ◌↔◌, [], None, map, option_map, string_bytes, codes};
+ghost use Rattle.std.specs.Prelude.{◌≡◌, ◌≤◌, ◌⊎◌, ◌↔◌, ◌++◌, [], None, IsSome, IsTrue, map, option_map, string_bytes, codes};
 ghost use Rattle.std.specs.Io.KnownBytes.{Appends};
 ghost use Rattle.cov_io.specs.Causes.{Rose};
 ghost use Rattle.cov_io.specs.Told.{WhereTold};
 ghost use Rattle.cov_io.specs.Grows.{AppendsPart};
 ghost use Rattle.cov_commands.specs.Due.{folder_of, merge_due, due, NamesAbsent, FolderIsMissing};
-ghost use Rattle.cov_commands.specs.Ends.{IsFinished, AppendsParts, IsMergeEnd, last_line};
+ghost use Rattle.cov_commands.specs.Sure.{GivesDue};
+ghost use Rattle.cov_commands.specs.Ends.{IsFinished, IsFinishedOrShort, AppendsParts, IsMergeEnd, last_line};
 
 use crate::Ended;
 use crate::merge::gather;
@@ -56,6 +57,15 @@ pub fn run_tool<S: Store, O: Sink, E: Sink>(
     ensures absent { NamesAbsent (map string_bytes words.now) (S.folders store.old)
         → (result ≡ Ended.ReadFault) ⊎ (result ≡ Ended.NoMemory) }
 
+    // Completeness: where the words are taken, no count rose and no folder that they name is absent, the command comes
+    // to its end, or wants memory.
+    ensures complete { IsSome (folder_of (map string_bytes words.now))
+        → ¬ NamesAbsent (map string_bytes words.now) (S.folders store.old)
+        → ¬ Rose (S.faults store.old) (S.faults store.new)
+        → ¬ Rose (O.faults out.old) (O.faults out.new)
+        → ¬ Rose (E.faults err.old) (E.faults err.new)
+        → IsFinishedOrShort result }
+
     // The counts never fall, and the store tells what it told.
     ensures later_store { S.faults store.old ≤ S.faults store.new }
     ensures later_out { O.faults out.old ≤ O.faults out.new }
@@ -74,6 +84,19 @@ pub fn run_tool<S: Store, O: Sink, E: Sink>(
             Ended::Usage
         }
     }
+}
+
+/// Runs a command over a store and sinks that never fail: it ends as it is due, with what is due, or wants memory.
+pub fn run_sure(
+    alloc: Global,
+    words: &[String],
+    store: &mut SureStore,
+    out: &mut SureSink,
+    err: &mut SureSink,
+) -> Ended
+    ensures { GivesDue (map string_bytes words.now) store.old out.old out.new err.old err.new result }
+{
+    run_tool(alloc, words, store, out, err)
 }
 
 /// The folder of `merge FOLDER`.
