@@ -3,10 +3,10 @@ use Rattle.std.proofs.Common.{◌≡◌, ℕ, ◌<◌, ◌≤◌, Bool, true, fa
 use Rattle.std.proofs.Math.Bool.{and-false}
 use Rattle.std.specs.Prelude.{Option, None, Some, nat_le, nat_lt, if◌then◌else◌, cond, filter}
 use Rattle.std.specs.List.{list_all}
-use Rattle.std.proofs.lemmas.Bool.{cases_lt, cases_Bool, lt-ltb, le-ltb, lt-leb, le-leb, leb-true, leb-false}
+use Rattle.std.proofs.lemmas.Bool.{cases_lt, cases_Bool, lt-ltb, le-ltb, lt-leb, le-leb, leb-true}
 use Rattle.cov_model.specs.declared.report.Range.{Range}
 use Rattle.cov_text.specs.Listing.{last_of}
-use Rattle.cov_model.specs.Nesting.{size, has_offset, around, is_shortest, innermost}
+use Rattle.cov_model.specs.Nesting.{size, has_offset, is_shortest, innermost}
 use Rattle.cov_ranges.specs.Scan.{shorter_of}
 
 -- what is kept of a list, from the best so far
@@ -67,7 +67,7 @@ drops_first b r rest x le found =
     let same : (y : Range) → is_shortest (b ∷ r ∷ rest) y ≡ q y = λ y. right_bound (size y) (size b) (size r) (list_all (λ other. nat_le (size y) (size other)) rest) le in
     ap last_of (λ i. filter (λ y. same y i) (b ∷ r ∷ rest)) ∙ last_behind (q b) b (filter q (r ∷ rest)) x found
 
-scanned-Some : (b : Range) (rs : List Range) → (x : Range) × (scanned (Some b) rs ≡ Some x)
+pub scanned-Some : (b : Range) (rs : List Range) → (x : Range) × (scanned (Some b) rs ≡ Some x)
 scanned-Some b [] = (b, refl)
 scanned-Some b (r ∷ rest) =
     elim (nat_lt (size b) (size r)) as (λ t. (x : Range) × (scanned (cond t (Some b) (Some r)) rest ≡ Some x)) [
