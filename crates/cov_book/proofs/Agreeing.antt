@@ -1,0 +1,294 @@
+-- Lists of snapshots with the same sums have the same faults, the same file, and the same sums with what is added.
+use Rattle.std.proofs.Common.{◌≡◌, ℕ, zero, suc, ◌+◌, ◌-◌, ◌<◌, ◌≤◌, Bool, true, false, List, [], ◌∷◌, ◌++◌, map, refl, sym, ap, ◌∙◌, arith, inl, inr}
+use Rattle.std.specs.Prelude.{Option, None, Some, option_map, unwrap_or, cond, min, nat_le, nat_lt, ◌||◌, ◌&&◌, ◌^◌, filter, filter_map, flat_map, find, sum_by, not, ◌==◌}
+use Rattle.std.specs.List.{AllByRecursion, list_any, list_all, cons_option}
+use Rattle.std.proofs.lemmas.Bool.{cases_lt}
+use Rattle.std.proofs.lemmas.Grind.{flat_map-append}
+use Rattle.std.proofs.lemmas.List.Folds.{list_any-append}
+use Rattle.cov_model.specs.declared.report.FunctionReport.{FunctionReport}
+use Rattle.cov_model.specs.declared.report.Range.{Range}
+use Rattle.cov_model.specs.declared.snapshot.Entry.{Entry}
+use Rattle.cov_model.specs.declared.snapshot.Snapshot.{Snapshot}
+use Rattle.cov_model.specs.declared.sums.Key.{Key}
+use Rattle.cov_model.specs.declared.sums.At.{At}
+use Rattle.cov_model.specs.declared.sums.At.TheVariants.{Root, Offset}
+use Rattle.cov_model.specs.declared.sums.SumFault.{SumFault}
+use Rattle.cov_text.specs.Listing.{inserted, counted, offsets, text_cmp, same_text}
+use Rattle.cov_model.specs.Nesting.{inner_count}
+use Rattle.cov_model.specs.Sums.{fits, sum_fault, sums, sum_at, passes_limit, limit, points, urls, keys, urls_in_order, keys_in_order, file_order, key_of, same_key, is_of, reports, root, total, flag, root_count}
+use Rattle.cov_model.specs.Normal.{grown, runs_over, maximal_runs, flat, range}
+use Rattle.cov_model.specs.File.{merged_report, merged_entry, scripts}
+use Rattle.cov_model.specs.Held.{FunctionSums, Held, sums_of, held_of}
+use Rattle.cov_model.proofs.Grows.{sum_at-append}
+use Rattle.cov_book.proofs.Merging.{inserted-append}
+use Rattle.cov_book.proofs.Ordered.{file_exact, any-in_order, same-is}
+
+-- The urls, the functions and the sums are the same.
+pub record Agree (one other : List Snapshot) : Type 0 where
+  pub urls : urls_in_order one ≡ urls_in_order other
+  pub keys : keys_in_order one ≡ keys_in_order other
+  pub flags : (key : Key) → flag one key ≡ flag other key
+  pub roots : (key : Key) → root one key ≡ root other key
+  pub totals : (key : Key) (o : ℕ) → key.start ≤ o → o < key.end → total one key o ≡ total other key o
+
+-- ---- a function with no report has no sums
+
+or-none : (a b : Bool) → (a || b) ≡ false → (a ≡ false) × (b ≡ false)
+or-none true b e = absurd cc
+or-none false b e = (refl, e)
+
+none-step : (key : Key) (o : Option Key) (f : FunctionReport) (rest : List FunctionReport) (others : List Key)
+    → list_any (same_key key) (cons_option o others) ≡ false
+    → (list_any (same_key key) others ≡ false → rest ≡ [])
+    → cond (unwrap_or (option_map (same_key key) o) false) (f ∷ rest) rest ≡ []
+none-step key None f rest others e h = h e
+none-step key (Some k) f rest others e h =
+    let p = or-none (same_key key k) (list_any (same_key key) others) e in
+    ap (λ b. cond b (f ∷ rest) rest) p.0 ∙ h p.1
+
+none-filter : (key : Key) (url : List ℕ) (fs : List FunctionReport) → list_any (same_key key) (filter_map (key_of url) fs) ≡ false → filter (is_of key url) fs ≡ []
+none-filter key url [] e = refl
+none-filter key url (f ∷ fs) e = none-step key (key_of url f) f (filter (is_of key url) fs) (filter_map (key_of url) fs) e (none-filter key url fs)
+
+none-flat : {A B C : Type 0} (q : B → Bool) (g : A → List B) (h : A → List C) → ((x : A) → list_any q (g x) ≡ false → h x ≡ [])
+    → (xs : List A) → list_any q (flat_map g xs) ≡ false → flat_map h xs ≡ []
+none-flat q g h each [] e = refl
+none-flat q g h each (x ∷ xs) e =
+    let p = or-none (list_any q (g x)) (list_any q (flat_map g xs)) (sym (list_any-append q (g x) (flat_map g xs)) ∙ e) in
+    ap (λ ys. ys ++ flat_map h xs) (each x p.0) ∙ none-flat q g h each xs p.1
+
+no-reports : (held : List Snapshot) (key : Key) → list_any (same_key key) (keys held) ≡ false → reports held key ≡ []
+unfolding reports
+no-reports held key e =
+    none-flat (same_key key) (λ (snapshot : Snapshot). flat_map (λ (entry : Entry). filter_map (key_of entry.url) entry.functions) snapshot)
+    (λ (snapshot : Snapshot). flat_map (λ (entry : Entry). filter (is_of key entry.url) entry.functions) snapshot)
+    (λ snapshot none. none-flat (same_key key) (λ (entry : Entry). filter_map (key_of entry.url) entry.functions) (λ (entry : Entry). filter (is_of key entry.url) entry.functions) (λ entry n. none-filter key entry.url entry.functions n) snapshot none)
+    held e
+
+pub absent : (held : List Snapshot) (key : Key) → list_any (same_key key) (keys_in_order held) ≡ false → reports held key ≡ []
+absent held key e = no-reports held key (sym (any-in_order file_order file_exact (same_key key) (keys held)) ∙ e)
+
+-- ---- what the sums tell
+
+pick-step : {B : Type 0} (f g : Key → B) (key k : Key) (ks : List Key) (b : Bool) → same_key key k ≡ b → (b || list_any (same_key key) ks) ≡ true
+    → f k ≡ g k → (list_any (same_key key) ks ≡ true → f key ≡ g key) → f key ≡ g key
+pick-step f g key k ks true is h e rest = let s = same-is key k is in ap f s ∙ e ∙ sym (ap g s)
+pick-step f g key k ks false is h e rest = rest h
+
+pick : (f g : Key → FunctionSums) (ks : List Key) → map f ks ≡ map g ks → (key : Key) → list_any (same_key key) ks ≡ true → f key ≡ g key
+pick f g [] e key h = absurd cc
+pick f g (k ∷ ks) e key h =
+    let both : f k ∷ map f ks ≡ g k ∷ map g ks = e in
+    let head : f k ≡ g k = cc in
+    let tail : map f ks ≡ map g ks = cc in
+    pick-step f g key k ks (same_key key k) refl h head (pick f g ks tail key)
+
+at-count : (f g : ℕ → ℕ) (n s : ℕ) → map f (counted s n) ≡ map g (counted s n) → (o : ℕ) → s ≤ o → o < s + n → f o ≡ g o
+at-count f g zero s e o low high = absurd (omega arith)
+at-count f g (suc n) s e o low high =
+    let both : f s ∷ map f (counted (suc s) n) ≡ g s ∷ map g (counted (suc s) n) = e in
+    let head : f s ≡ g s = cc in
+    let tail : map f (counted (suc s) n) ≡ map g (counted (suc s) n) = cc in
+    elim (cases_lt s o) [
+      | inl past ↦ at-count f g n (suc s) tail o (omega arith) (omega arith)
+      | inr first ↦ let here : o ≡ s = omega arith in ap f here ∙ head ∙ sym (ap g here)
+    ]
+
+map-keys : (held : List Snapshot) (ks : List Key) → map (λ (f : FunctionSums). f.key) (map (sums_of held) ks) ≡ ks
+map-keys held [] = refl
+map-keys held (k ∷ ks) = ap (λ rest. k ∷ rest) (map-keys held ks)
+
+-- a function's sums, in both lists
+record SameSums (one other : List Snapshot) (key : Key) : Type 0 where
+  block : flag one key ≡ flag other key
+  count : root one key ≡ root other key
+  at : (o : ℕ) → key.start ≤ o → o < key.end → total one key o ≡ total other key o
+
+told-sums : (one other : List Snapshot) (key : Key) → sums_of one key ≡ sums_of other key → SameSums one other key
+told-sums one other key e = record {
+  block = ap (λ (f : FunctionSums). f.block) e;
+  count = ap (λ (f : FunctionSums). f.root) e;
+  at = λ o low high. at-count (total one key) (total other key) (key.end - key.start) key.start (ap (λ (f : FunctionSums). f.counts) e) o low (omega arith);
+}
+
+no-sums : (one other : List Snapshot) (key : Key) → reports one key ≡ [] → reports other key ≡ [] → SameSums one other key
+unfolding flag root total
+no-sums one other key none nothing =
+    let same : reports one key ≡ reports other key = none ∙ sym nothing in
+    record {
+      block = ap (list_any (λ (f : FunctionReport). f.block)) same;
+      count = ap (sum_by root_count) same;
+      at = λ o low high. ap (sum_by (λ (f : FunctionReport). inner_count f.ranges o)) same;
+    }
+
+pub held-agree : (one other : List Snapshot) → held_of one ≡ held_of other → Agree one other
+unfolding held_of
+held-agree one other e =
+    let ks = keys_in_order one in
+    let functions : map (sums_of one) (keys_in_order one) ≡ map (sums_of other) (keys_in_order other) = ap (λ (h : Held). h.functions) e in
+    let names : keys_in_order one ≡ keys_in_order other =
+    sym (map-keys one (keys_in_order one)) ∙ ap (map (λ (f : FunctionSums). f.key)) functions ∙ map-keys other (keys_in_order other) in
+    let sums : map (sums_of one) ks ≡ map (sums_of other) ks = functions ∙ ap (map (sums_of other)) (sym names) in
+    let by : (key : Key) (b : Bool) → list_any (same_key key) ks ≡ b → SameSums one other key =
+    λ key. elim [
+      | true ↦ λ there. told-sums one other key (pick (sums_of one) (sums_of other) ks sums key there)
+      | false ↦ λ none. no-sums one other key (absent one key none) (absent other key (ap (list_any (same_key key)) (sym names) ∙ none))
+    ] in
+    record {
+      urls = ap (λ (h : Held). h.urls) e;
+      keys = names;
+      flags = λ key. (by key (list_any (same_key key) ks) refl).block;
+      roots = λ key. (by key (list_any (same_key key) ks) refl).count;
+      totals = λ key. (by key (list_any (same_key key) ks) refl).at;
+    }
+
+-- ---- the same with what is added
+
+flag-append : (xs ys : List Snapshot) (key : Key) → flag (xs ++ ys) key ≡ (flag xs key || flag ys key)
+unfolding flag reports
+flag-append xs ys key =
+    ap (list_any (λ (f : FunctionReport). f.block)) (flat_map-append (λ (snapshot : Snapshot). flat_map (λ (entry : Entry). filter (is_of key entry.url) entry.functions) snapshot) xs ys)
+    ∙ list_any-append (λ (f : FunctionReport). f.block) (reports xs key) (reports ys key)
+
+urls-append : (xs ys : List Snapshot) → urls_in_order (xs ++ ys) ≡ inserted text_cmp (urls_in_order xs) (urls ys)
+urls-append xs ys =
+    ap (inserted text_cmp []) (flat_map-append (λ (snapshot : Snapshot). map (λ (entry : Entry). entry.url) snapshot) xs ys)
+    ∙ inserted-append text_cmp (urls xs) (urls ys) []
+
+keys-append : (xs ys : List Snapshot) → keys_in_order (xs ++ ys) ≡ inserted file_order (keys_in_order xs) (keys ys)
+keys-append xs ys =
+    ap (inserted file_order []) (flat_map-append (λ (snapshot : Snapshot). flat_map (λ (entry : Entry). filter_map (key_of entry.url) entry.functions) snapshot) xs ys)
+    ∙ inserted-append file_order (keys xs) (keys ys) []
+
+pub agree-append : (one other more : List Snapshot) → Agree one other → Agree (one ++ more) (other ++ more)
+agree-append one other more same = record {
+  urls = urls-append one more ∙ ap (λ known. inserted text_cmp known (urls more)) same.urls ∙ sym (urls-append other more);
+  keys = keys-append one more ∙ ap (λ known. inserted file_order known (keys more)) same.keys ∙ sym (keys-append other more);
+  flags = λ key. flag-append one more key ∙ ap (λ b. b || flag more key) (same.flags key) ∙ sym (flag-append other more key);
+  roots = λ key. sum_at-append one more key Root ∙ ap (λ n. n + root more key) (same.roots key) ∙ sym (sum_at-append other more key Root);
+  totals = λ key o low high.
+      sum_at-append one more key (Offset o) ∙ ap (λ n. n + total more key o) (same.totals key o low high) ∙ sym (sum_at-append other more key (Offset o));
+}
+
+-- ---- the same scripts
+
+runs-same : (n s : ℕ) (f g : ℕ → ℕ) → ((o : ℕ) → s ≤ o → o < s + n → f o ≡ g o) → runs_over s n f ≡ runs_over s n g
+runs-same zero s f g h = refl
+runs-same (suc n) s f g h =
+    ap (λ c. grown s c (runs_over (suc s) n f)) (h s (omega arith) (omega arith))
+    ∙ ap (grown s (g s)) (runs-same n (suc s) f g (λ o low high. h o (omega arith) (omega arith)))
+
+pub flat-same : (start end count : ℕ) (f g : ℕ → ℕ) → ((o : ℕ) → start ≤ o → o < end → f o ≡ g o) → flat start end count f ≡ flat start end count g
+unfolding flat maximal_runs
+flat-same s e c f g h =
+    ap (λ rs. range s e c ∷ filter (λ (run : Range). not (run.count == c)) rs) (runs-same (e - s) s f g (λ o low high. h o low (omega arith)))
+
+report-same : (one other : List Snapshot) → Agree one other → (key : Key) → merged_report one key ≡ merged_report other key
+report-same one other same key =
+    let ranges : flat key.start key.end (root one key) (total one key) ≡ flat key.start key.end (root other key) (total other key) =
+    ap (λ c. flat key.start key.end c (total one key)) (same.roots key) ∙ flat-same key.start key.end (root other key) (total one key) (total other key) (same.totals key) in
+    (λ i. record { name = key.name; block = same.flags key i; ranges = ranges i })
+
+map-each : {A B : Type 0} (f g : A → B) → ((x : A) → f x ≡ g x) → (xs : List A) → map f xs ≡ map g xs
+map-each f g h [] = refl
+map-each f g h (x ∷ xs) = ap (λ y. y ∷ map f xs) (h x) ∙ ap (λ ys. g x ∷ ys) (map-each f g h xs)
+
+entry-same : (one other : List Snapshot) → Agree one other → (url : List ℕ) → merged_entry one url ≡ merged_entry other url
+entry-same one other same url =
+    let of_url : Key → Bool = λ key. same_text key.url url in
+    let functions : map (merged_report one) (filter of_url (keys_in_order one)) ≡ map (merged_report other) (filter of_url (keys_in_order other)) =
+    map-each (merged_report one) (merged_report other) (report-same one other same) (filter of_url (keys_in_order one)) ∙ ap (λ ks. map (merged_report other) (filter of_url ks)) same.keys in
+    (λ i. record { url = url; functions = functions i })
+
+pub agree-scripts : (one other : List Snapshot) → Agree one other → scripts one ≡ scripts other
+unfolding scripts
+agree-scripts one other same =
+    map-each (merged_entry one) (merged_entry other) (entry-same one other same) (urls_in_order one) ∙ ap (map (merged_entry other)) same.urls
+
+-- ---- the same faults
+
+All-append : {A : Type 0} (P : A → Type 0) (xs ys : List A) → AllByRecursion P xs → AllByRecursion P ys → AllByRecursion P (xs ++ ys)
+All-append P [] ys h k = k
+All-append P (x ∷ xs) ys h k = (h.0, All-append P xs ys h.1 k)
+
+All-map : {A B : Type 0} (P : B → Type 0) (g : A → B) (xs : List A) → AllByRecursion (λ x. P (g x)) xs → AllByRecursion P (map g xs)
+All-map P g [] h = tt
+All-map P g (x ∷ xs) h = (h.0, All-map P g xs h.1)
+
+All-counted : (P : ℕ → Type 0) (n s : ℕ) → ((o : ℕ) → s ≤ o → o < s + n → P o) → AllByRecursion P (counted s n)
+All-counted P zero s h = tt
+All-counted P (suc n) s h = (h s (omega arith) (omega arith), All-counted P n (suc s) (λ o low high. h o (omega arith) (omega arith)))
+
+All-sums : (P : Key × At → Type 0) → ((key : Key) → P (key, Root)) → ((key : Key) (o : ℕ) → key.start ≤ o → o < key.end → P (key, Offset o))
+    → (ks : List Key) → AllByRecursion P (flat_map (λ key. map (λ point. (key, point)) (points key)) ks)
+All-sums P root offset [] = tt
+All-sums P root offset (k ∷ ks) =
+    All-append P (map (λ point. (k, point)) (points k)) (flat_map (λ key. map (λ point. (key, point)) (points key)) ks)
+    (All-map P (λ (point : At). (k, point)) (points k)
+    (root k, All-map (λ point. P (k, point)) Offset (offsets k.start k.end) (All-counted (λ o. P (k, Offset o)) (k.end - k.start) k.start (λ o low high. offset k o low (omega arith)))))
+    (All-sums P root offset ks)
+
+abbrev SameSum : List Snapshot → List Snapshot → Key × At → Type 0
+SameSum one other at = sum_at one at.0 at.1 ≡ sum_at other at.0 at.1
+
+pub sums-agree : (one other : List Snapshot) → Agree one other → (ks : List Key) → AllByRecursion (SameSum one other) (flat_map (λ key. map (λ point. (key, point)) (points key)) ks)
+sums-agree one other same ks = All-sums (SameSum one other) same.roots same.totals ks
+
+all-same : {A : Type 0} (p q : A → Bool) (P : A → Type 0) → ((x : A) → P x → p x ≡ q x) → (xs : List A) → AllByRecursion P xs → list_all p xs ≡ list_all q xs
+all-same p q P h [] a = refl
+all-same p q P h (x ∷ xs) a = ap (λ b. b && list_all p xs) (h x a.0) ∙ ap (λ b. q x && b) (all-same p q P h xs a.1)
+
+pub agree-fits : (one other : List Snapshot) → Agree one other → fits one ≡ fits other
+unfolding fits
+agree-fits one other same =
+    all-same (λ (at : Key × At). nat_le (sum_at one at.0 at.1) limit) (λ (at : Key × At). nat_le (sum_at other at.0 at.1) limit) (SameSum one other) (λ at e. ap (λ n. nat_le n limit) e)
+    (sums one) (sums-agree one other same (keys_in_order one))
+    ∙ ap (λ ks. list_all (λ (at : Key × At). nat_le (sum_at other at.0 at.1) limit) (flat_map (λ key. map (λ point. (key, point)) (points key)) ks)) same.keys
+
+find-same : {A B : Type 0} (p q : A → Bool) (f g : A → B) (P : A → Type 0) → ((x : A) → P x → p x ≡ q x) → ((x : A) → P x → f x ≡ g x)
+    → (xs : List A) → AllByRecursion P xs → option_map f (find p xs) ≡ option_map g (find q xs)
+find-same p q f g P t u [] a = refl
+find-same p q f g P t u (x ∷ xs) a =
+    ap (λ b. option_map f (cond b (Some x) (find p xs))) (t x a.0) ∙ by (q x) (u x a.0) (find-same p q f g P t u xs a.1)
+  where
+    by : (b : Bool) → f x ≡ g x → option_map f (find p xs) ≡ option_map g (find q xs) → option_map f (cond b (Some x) (find p xs)) ≡ option_map g (cond b (Some x) (find q xs))
+    by true e rest = ap Some e
+    by false e rest = rest
+
+All-both : {A : Type 0} (P Q : A → Type 0) (xs : List A) → AllByRecursion P xs → AllByRecursion Q xs → AllByRecursion (λ x. P x × Q x) xs
+All-both P Q [] h k = tt
+All-both P Q (x ∷ xs) h k = ((h.0, k.0), All-both P Q xs h.1 k.1)
+
+told : List Snapshot → Snapshot → Key × At → SumFault
+told held snapshot at = record { key = at.0; at = at.1; held = sum_at held at.0 at.1; added = min (sum_at (snapshot ∷ []) at.0 at.1) (2 ^ 128 - 1) }
+
+pub agree-fault : (one other : List Snapshot) (snapshot : Snapshot) → Agree one other → sum_fault one snapshot ≡ sum_fault other snapshot
+unfolding sum_fault told
+agree-fault one other snapshot same =
+    let both = one ++ snapshot ∷ [] in
+    let all = other ++ snapshot ∷ [] in
+    let more = agree-append one other (snapshot ∷ []) same in
+    let ks = keys_in_order both in
+    find-same (passes_limit both) (passes_limit all) (told one snapshot) (told other snapshot) (λ at. SameSum both all at × SameSum one other at)
+    (λ at e. ap (λ n. nat_lt limit n) e.0)
+    (λ at e i. record { key = at.0; at = at.1; held = e.1 i; added = min (sum_at (snapshot ∷ []) at.0 at.1) (2 ^ 128 - 1) })
+    (sums both) (All-both (SameSum both all) (SameSum one other) (sums both) (sums-agree both all more ks) (sums-agree one other same ks))
+    ∙ ap (λ xs. option_map (told other snapshot) (find (passes_limit all) (flat_map (λ key. map (λ point. (key, point)) (points key)) xs))) more.keys
+
+-- ---- the same value
+
+counts-same : (f g : ℕ → ℕ) (n s : ℕ) → ((o : ℕ) → s ≤ o → o < s + n → f o ≡ g o) → map f (counted s n) ≡ map g (counted s n)
+counts-same f g zero s h = refl
+counts-same f g (suc n) s h =
+    ap (λ c. c ∷ map f (counted (suc s) n)) (h s (omega arith) (omega arith)) ∙ ap (λ cs. g s ∷ cs) (counts-same f g n (suc s) (λ o low high. h o (omega arith) (omega arith)))
+
+sums-same : (one other : List Snapshot) → Agree one other → (key : Key) → sums_of one key ≡ sums_of other key
+sums-same one other same key =
+    let counts = counts-same (total one key) (total other key) (key.end - key.start) key.start (λ o low high. same.totals key o low (omega arith)) in
+    (λ i. record { key = key; block = same.flags key i; root = same.roots key i; counts = counts i })
+
+pub agree-held : (one other : List Snapshot) → Agree one other → held_of one ≡ held_of other
+unfolding held_of
+agree-held one other same =
+    let functions = map-each (sums_of one) (sums_of other) (sums-same one other same) (keys_in_order one) ∙ ap (map (sums_of other)) same.keys in
+    (λ i. record { urls = same.urls i; functions = functions i })
