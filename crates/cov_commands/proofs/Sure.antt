@@ -33,13 +33,13 @@ there_or_missing folder folders there missing =
 pub gives_due : (words : List (List ℕ)) (store : SureStore) (out_before out_after err_before err_after : SureSink) (ended : Ended)
     → (IsSome (folder_of words) → (NamesAbsent words (Some store.folders) → ⊥) → (Rose 0 0 → ⊥) → (Rose 0 0 → ⊥) → (Rose 0 0 → ⊥) → IsFinishedOrShort ended)
     → (IsFinished ended → WhereTold (due words (Some (files_of store.files))) (λ d.
-        (ended ≡ d.ended) × Appends (Some out_before.bytes) (Some out_after.bytes) d.out × Appends (Some err_before.bytes) (Some err_after.bytes) d.err))
+    (ended ≡ d.ended) × Appends (Some out_before.bytes) (Some out_after.bytes) d.out × Appends (Some err_before.bytes) (Some err_after.bytes) d.err))
     → GivesDue words store out_before out_after err_before err_after ended
 gives_due words store out_before out_after err_before err_after ended complete merged folder is there =
     let there_is : IsSome (Some folder) = search rules in
     let some : IsSome (folder_of words) = subst IsSome (sym is) there_is in
     let present : NamesAbsent words (Some store.folders) → ⊥ = λ absent.
-        there_or_missing folder store.folders there (subst (λ o. IsSomeAnd o (FolderIsMissing (Some store.folders))) is absent) in
+    there_or_missing folder store.folders there (subst (λ o. IsSomeAnd o (FolderIsMissing (Some store.folders))) is absent) in
     elim (finished_or_short ended (complete some present not_risen not_risen not_risen)) [
       | inl short ↦ inl short
       | inr finished ↦
