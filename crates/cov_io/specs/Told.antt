@@ -1,6 +1,6 @@
 -- What a store tells of its files and folders.
-use Rattle.std.specs.Prelude.{◌≡◌, ℕ, ◌+◌, Bool, not, ◌&&◌, List, [], ◌∷◌, ◌++◌, length, drop, map, take, filter_map, if◌then◌else◌, Option, None, Some, option_and_then, IsTrue, IsFalse, ◌==◌, bytes_eq, nat_eq, Result, IsErrOf, IfOk, OnOk}
-use Rattle.std.specs.List.{list_any, starts_with}
+use Rattle.std.specs.Prelude.{◌≡◌, ℕ, Bool, List, [], ◌∷◌, ◌++◌, filter_map, if◌then◌else◌, Option, None, Some, option_and_then, IsTrue, IsFalse, ◌==◌}
+use Rattle.std.specs.List.{list_any}
 use Rattle.cov_text.specs.Listing.{same_text, text_cmp, in_order}
 use Rattle.cov_io.specs.Causes.{Rose}
 

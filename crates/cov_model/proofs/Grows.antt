@@ -1,12 +1,11 @@
 -- Sums only grow: where more is held, what passed the limit passes it still.
-use Rattle.std.proofs.Common.{◌≡◌, ℕ, ◌+◌, ◌<◌, ◌≤◌, Bool, true, false, List, [], ◌∷◌, ◌++◌, map, refl, sym, ap, ◌∙◌, subst, arith, inl, inr, append_assoc}
-use Rattle.std.specs.Prelude.{Option, None, Some, option_map, unwrap_or, cond, nat_le, ◌&&◌, ◌||◌, ◌==◌, filter, filter_map, flat_map, sum_by, nat_eq}
+use Rattle.std.proofs.Common.{◌≡◌, ℕ, ◌+◌, ◌≤◌, Bool, true, false, List, [], ◌∷◌, ◌++◌, map, refl, sym, ap, ◌∙◌, arith}
+use Rattle.std.specs.Prelude.{Option, None, Some, option_map, unwrap_or, cond, nat_le, ◌&&◌, ◌||◌, ◌==◌, filter, filter_map, flat_map, sum_by}
 use Rattle.std.specs.List.{list_all, list_any, cons_option}
 use Rattle.std.specs.declared.cmp.Ordering.{Ordering}
 use Rattle.std.specs.declared.cmp.Ordering.TheVariants.{Less, Equal, Greater}
 use Rattle.std.specs.Ordering.{nat_cmp, ordering_then, match_ordering, is_eq}
 use Rattle.std.specs.BTreeSet.{insert_key}
-use Rattle.std.proofs.lemmas.Bool.{cases_Bool}
 use Rattle.std.proofs.lemmas.Bool.Decides.{nat_tests, Decides-eqb}
 use Rattle.std.proofs.lemmas.Grind.{flat_map-append}
 use Rattle.std.proofs.lemmas.List.Folds.{list_all-append, list_all-map, list_any-append}
@@ -19,9 +18,9 @@ use Rattle.cov_model.specs.declared.snapshot.Snapshot.{Snapshot}
 use Rattle.cov_model.specs.declared.sums.Key.{Key}
 use Rattle.cov_model.specs.declared.sums.At.{At}
 use Rattle.cov_model.specs.declared.sums.At.TheVariants.{Root, Offset}
-use Rattle.cov_text.specs.Listing.{text_cmp, same_text, inserted, in_order}
+use Rattle.cov_text.specs.Listing.{text_cmp, same_text, inserted}
 use Rattle.cov_model.specs.Nesting.{inner_count}
-use Rattle.cov_model.specs.Sums.{fits, sums, sum_at, limit, points, keys, keys_in_order, file_order, key_of, same_key, is_of, reports, root, total, root_count}
+use Rattle.cov_model.specs.Sums.{fits, sum_at, limit, points, keys, keys_in_order, file_order, key_of, same_key, is_of, reports, root, total, root_count}
 use Rattle.cov_model.specs.Laws.{StaysPast}
 
 -- ---- tests over lists
