@@ -37,6 +37,10 @@ pub fn run_tool<S: Store, O: Sink, E: Sink>(
     ensures part_err { WhereTold (due (map string_bytes words.now) (S.files store.old)) (λ d.
         AppendsParts (E.held err.old) (E.held err.new) d.err (last_line result)) }
 
+    // The output is written whole before the error sink gets a line of a refused text.
+    ensures order { WhereTold (due (map string_bytes words.now) (S.files store.old)) (λ d.
+        Appends (O.held out.old) (O.held out.new) d.out ⊎ AppendsPart (E.held err.old) (E.held err.new) (last_line result)) }
+
     // `Usage` comes exactly where the words are no command. Then the store was not called, and nothing was put out.
     ensures usage { (result ≡ Ended.Usage) ↔ (folder_of (map string_bytes words.now) ≡ None) }
     ensures usage_store { result ≡ Ended.Usage → store.new ≡ store.old }
@@ -149,6 +153,8 @@ fn merge<S: Store, O: Sink, E: Sink>(
         AppendsPart (O.held out.old) (O.held out.new) (merge_due folder.now files).out) }
     ensures part_err { WhereTold (S.files store.old) (λ files.
         AppendsPart (E.held err.old) (E.held err.new) (merge_due folder.now files).err) }
+    ensures order { WhereTold (S.files store.old) (λ files.
+        Appends (O.held out.old) (O.held out.new) (merge_due folder.now files).out ⊎ (err.new ≡ err.old)) }
     ensures answers { IsMergeEnd result }
     ensures read { result ≡ Ended.ReadFault
         → Rose (S.faults store.old) (S.faults store.new) ⊎ FolderIsMissing (S.folders store.old) folder.now }
