@@ -1,0 +1,9 @@
+pub mod Ends
+pub mod Maximal
+pub mod Checks
+pub mod Open
+pub mod Ordered
+pub mod Sorted
+pub mod Rooted
+pub mod Walks
+pub mod Adding

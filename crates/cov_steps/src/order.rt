@@ -1,0 +1,26 @@
+//! The order in which V8 lists ranges.
+ghost use Rattle.std.specs.Prelude.{◌≡◌, IfOk};
+ghost use Rattle.std.specs.List.Sorted.{IsPermutation, IsSortedBy, IsStableBy};
+ghost use Rattle.std.specs.Ordering.{is_lt};
+ghost use Rattle.cov_steps.specs.Order.{comes_first};
+
+use cov_model::Range;
+use std::alloc::{AllocError, Global};
+use std::cmp::Ordering;
+
+// The ranges by starts rising, and of one start by ends falling. Those of one start and end keep their order.
+pub(crate) fn in_order(alloc: Global, ranges: &[Range]) -> Result<Vec<Range>, AllocError>
+    ensures permutation { IfOk result (λ ordered. IsPermutation ranges.now ordered.items) }
+    ensures sorted { IfOk result (λ ordered. IsSortedBy comes_first ordered.items) }
+    ensures stable { IfOk result (λ ordered. IsStableBy comes_first ranges.now ordered.items) }
+{
+    let mut ordered = Vec::from_slice(alloc, ranges)?;
+    ordered.sort_by(|a, b| order_of(*a, *b))?;
+    Ok(ordered)
+}
+
+fn order_of(a: Range, b: Range) -> Ordering
+    ensures { is_lt result ≡ comes_first a b }
+{
+    a.start.cmp(&b.start).then(b.end.cmp(&a.end))
+}
