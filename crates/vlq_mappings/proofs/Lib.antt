@@ -1,0 +1,14 @@
+pub mod Numbers
+pub mod Groups
+pub mod Moves
+pub mod Lines
+pub mod Binds
+pub mod Found
+pub mod FoundLines
+pub mod Again
+pub mod Laws
+pub mod Spelled
+pub mod Texts
+pub mod Back
+pub mod Refused
+pub mod Shortest

@@ -1,0 +1,11 @@
+pub mod Faults
+pub mod Kept
+pub mod Digits
+pub mod Mappings
+pub mod Pieces
+pub mod Fields
+pub mod Grammar
+pub mod FirstFault
+pub mod Written
+pub mod Gives
+pub mod Examples
