@@ -1,7 +1,7 @@
 -- Lists of snapshots with the same sums have the same faults, the same file, and the same sums with what is added.
 use Rattle.std.proofs.Common.{◌≡◌, ℕ, zero, suc, ◌+◌, ◌-◌, ◌<◌, ◌≤◌, Bool, true, false, List, [], ◌∷◌, ◌++◌, map, refl, sym, ap, ◌∙◌, arith, inl, inr}
-use Rattle.std.specs.Prelude.{Option, None, Some, option_map, unwrap_or, cond, min, nat_le, nat_lt, ◌||◌, ◌&&◌, ◌^◌, filter, filter_map, flat_map, find, sum_by, not, ◌==◌}
-use Rattle.std.specs.List.{AllByRecursion, list_any, list_all, cons_option}
+use Rattle.std.specs.Prelude.{Some, option_map, cond, min, nat_le, nat_lt, ◌||◌, ◌&&◌, ◌^◌, filter, filter_map, flat_map, find, sum_by, not, ◌==◌}
+use Rattle.std.specs.List.{AllByRecursion, list_any, list_all}
 use Rattle.std.proofs.lemmas.Bool.{cases_lt}
 use Rattle.std.proofs.lemmas.Grind.{flat_map-append}
 use Rattle.std.proofs.lemmas.List.Folds.{list_any-append}
@@ -17,11 +17,13 @@ use Rattle.cov_text.specs.Listing.{inserted, counted, offsets, text_cmp, same_te
 use Rattle.cov_model.specs.Nesting.{inner_count}
 use Rattle.cov_model.specs.Sums.{fits, sum_fault, sums, sum_at, passes_limit, limit, points, urls, keys, urls_in_order, keys_in_order, file_order, key_of, same_key, is_of, reports, root, total, flag, root_count}
 use Rattle.cov_model.specs.Normal.{grown, runs_over, maximal_runs, flat, range}
-use Rattle.cov_model.specs.File.{merged_report, merged_entry, scripts}
+use Rattle.cov_model.specs.File.{merged_report, merged_entry, scripts, file}
 use Rattle.cov_model.specs.Held.{FunctionSums, Held, sums_of, held_of}
 use Rattle.cov_model.proofs.Grows.{sum_at-append}
+use Rattle.cov_book.specs.Laws.{ComeToOne}
 use Rattle.cov_book.proofs.Merging.{inserted-append}
-use Rattle.cov_book.proofs.Ordered.{file_exact, any-in_order, same-is}
+use Rattle.cov_book.proofs.Having.{absent}
+use Rattle.cov_book.proofs.Ordered.{text_exact, file_exact, any-in_order, same-is, urls-same, keys-same}
 
 -- The urls, the functions and the sums are the same.
 pub record Agree (one other : List Snapshot) : Type 0 where
@@ -30,43 +32,6 @@ pub record Agree (one other : List Snapshot) : Type 0 where
   pub flags : (key : Key) → flag one key ≡ flag other key
   pub roots : (key : Key) → root one key ≡ root other key
   pub totals : (key : Key) (o : ℕ) → key.start ≤ o → o < key.end → total one key o ≡ total other key o
-
--- ---- a function with no report has no sums
-
-or-none : (a b : Bool) → (a || b) ≡ false → (a ≡ false) × (b ≡ false)
-or-none true b e = absurd cc
-or-none false b e = (refl, e)
-
-none-step : (key : Key) (o : Option Key) (f : FunctionReport) (rest : List FunctionReport) (others : List Key)
-    → list_any (same_key key) (cons_option o others) ≡ false
-    → (list_any (same_key key) others ≡ false → rest ≡ [])
-    → cond (unwrap_or (option_map (same_key key) o) false) (f ∷ rest) rest ≡ []
-none-step key None f rest others e h = h e
-none-step key (Some k) f rest others e h =
-    let p = or-none (same_key key k) (list_any (same_key key) others) e in
-    ap (λ b. cond b (f ∷ rest) rest) p.0 ∙ h p.1
-
-none-filter : (key : Key) (url : List ℕ) (fs : List FunctionReport) → list_any (same_key key) (filter_map (key_of url) fs) ≡ false → filter (is_of key url) fs ≡ []
-none-filter key url [] e = refl
-none-filter key url (f ∷ fs) e = none-step key (key_of url f) f (filter (is_of key url) fs) (filter_map (key_of url) fs) e (none-filter key url fs)
-
-none-flat : {A B C : Type 0} (q : B → Bool) (g : A → List B) (h : A → List C) → ((x : A) → list_any q (g x) ≡ false → h x ≡ [])
-    → (xs : List A) → list_any q (flat_map g xs) ≡ false → flat_map h xs ≡ []
-none-flat q g h each [] e = refl
-none-flat q g h each (x ∷ xs) e =
-    let p = or-none (list_any q (g x)) (list_any q (flat_map g xs)) (sym (list_any-append q (g x) (flat_map g xs)) ∙ e) in
-    ap (λ ys. ys ++ flat_map h xs) (each x p.0) ∙ none-flat q g h each xs p.1
-
-no-reports : (held : List Snapshot) (key : Key) → list_any (same_key key) (keys held) ≡ false → reports held key ≡ []
-unfolding reports
-no-reports held key e =
-    none-flat (same_key key) (λ (snapshot : Snapshot). flat_map (λ (entry : Entry). filter_map (key_of entry.url) entry.functions) snapshot)
-    (λ (snapshot : Snapshot). flat_map (λ (entry : Entry). filter (is_of key entry.url) entry.functions) snapshot)
-    (λ snapshot none. none-flat (same_key key) (λ (entry : Entry). filter_map (key_of entry.url) entry.functions) (λ (entry : Entry). filter (is_of key entry.url) entry.functions) (λ entry n. none-filter key entry.url entry.functions n) snapshot none)
-    held e
-
-pub absent : (held : List Snapshot) (key : Key) → list_any (same_key key) (keys_in_order held) ≡ false → reports held key ≡ []
-absent held key e = no-reports held key (sym (any-in_order file_order file_exact (same_key key) (keys held)) ∙ e)
 
 -- ---- what the sums tell
 
@@ -99,10 +64,10 @@ map-keys held [] = refl
 map-keys held (k ∷ ks) = ap (λ rest. k ∷ rest) (map-keys held ks)
 
 -- a function's sums, in both lists
-record SameSums (one other : List Snapshot) (key : Key) : Type 0 where
-  block : flag one key ≡ flag other key
-  count : root one key ≡ root other key
-  at : (o : ℕ) → key.start ≤ o → o < key.end → total one key o ≡ total other key o
+pub record SameSums (one other : List Snapshot) (key : Key) : Type 0 where
+  pub block : flag one key ≡ flag other key
+  pub count : root one key ≡ root other key
+  pub at : (o : ℕ) → key.start ≤ o → o < key.end → total one key o ≡ total other key o
 
 told-sums : (one other : List Snapshot) (key : Key) → sums_of one key ≡ sums_of other key → SameSums one other key
 told-sums one other key e = record {
@@ -111,7 +76,7 @@ told-sums one other key e = record {
   at = λ o low high. at-count (total one key) (total other key) (key.end - key.start) key.start (ap (λ (f : FunctionSums). f.counts) e) o low (omega arith);
 }
 
-no-sums : (one other : List Snapshot) (key : Key) → reports one key ≡ [] → reports other key ≡ [] → SameSums one other key
+pub no-sums : (one other : List Snapshot) (key : Key) → reports one key ≡ [] → reports other key ≡ [] → SameSums one other key
 unfolding flag root total
 no-sums one other key none nothing =
     let same : reports one key ≡ reports other key = none ∙ sym nothing in
@@ -170,6 +135,47 @@ agree-append one other more same = record {
       sum_at-append one more key (Offset o) ∙ ap (λ n. n + total more key o) (same.totals key o low high) ∙ sym (sum_at-append other more key (Offset o));
 }
 
+urls-before : (xs one other : List Snapshot) → urls_in_order one ≡ urls_in_order other → urls_in_order (xs ++ one) ≡ urls_in_order (xs ++ other)
+urls-before xs one other same =
+    let of_each : Snapshot → List (List ℕ) = λ (snapshot : Snapshot). map (λ (entry : Entry). entry.url) snapshot in
+    let has : (url : List ℕ) (ys : List Snapshot) → list_any (same_text url) (urls (xs ++ ys)) ≡ (list_any (same_text url) (urls xs) || list_any (same_text url) (urls_in_order ys)) =
+    λ url ys.
+    ap (list_any (same_text url)) (flat_map-append of_each xs ys) ∙ list_any-append (same_text url) (urls xs) (urls ys)
+    ∙ ap (λ b. list_any (same_text url) (urls xs) || b) (sym (any-in_order text_cmp text_exact (same_text url) (urls ys))) in
+    urls-same (urls (xs ++ one)) (urls (xs ++ other)) (λ url. has url one ∙ ap (λ us. list_any (same_text url) (urls xs) || list_any (same_text url) us) same ∙ sym (has url other))
+
+keys-before : (xs one other : List Snapshot) → keys_in_order one ≡ keys_in_order other → keys_in_order (xs ++ one) ≡ keys_in_order (xs ++ other)
+keys-before xs one other same =
+    let of_each : Snapshot → List Key = λ (snapshot : Snapshot). flat_map (λ (entry : Entry). filter_map (key_of entry.url) entry.functions) snapshot in
+    let has : (key : Key) (ys : List Snapshot) → list_any (same_key key) (keys (xs ++ ys)) ≡ (list_any (same_key key) (keys xs) || list_any (same_key key) (keys_in_order ys)) =
+    λ key ys.
+    ap (list_any (same_key key)) (flat_map-append of_each xs ys) ∙ list_any-append (same_key key) (keys xs) (keys ys)
+    ∙ ap (λ b. list_any (same_key key) (keys xs) || b) (sym (any-in_order file_order file_exact (same_key key) (keys ys))) in
+    keys-same (keys (xs ++ one)) (keys (xs ++ other)) (λ key. has key one ∙ ap (λ ks. list_any (same_key key) (keys xs) || list_any (same_key key) ks) same ∙ sym (has key other))
+
+agree-before : (before one other : List Snapshot) → Agree one other → Agree (before ++ one) (before ++ other)
+agree-before before one other same = record {
+  urls = urls-before before one other same.urls;
+  keys = keys-before before one other same.keys;
+  flags = λ key. flag-append before one key ∙ ap (λ b. flag before key || b) (same.flags key) ∙ sym (flag-append before other key);
+  roots = λ key. sum_at-append before one key Root ∙ ap (λ n. root before key + n) (same.roots key) ∙ sym (sum_at-append before other key Root);
+  totals = λ key o low high.
+      sum_at-append before one key (Offset o) ∙ ap (λ n. total before key o + n) (same.totals key o low high) ∙ sym (sum_at-append before other key (Offset o));
+}
+
+agree-then : (one other another : List Snapshot) → Agree one other → Agree other another → Agree one another
+agree-then one other another a b = record {
+  urls = a.urls ∙ b.urls;
+  keys = a.keys ∙ b.keys;
+  flags = λ key. a.flags key ∙ b.flags key;
+  roots = λ key. a.roots key ∙ b.roots key;
+  totals = λ key o low high. a.totals key o low high ∙ b.totals key o low high;
+}
+
+pub agree-both : (one other more rest : List Snapshot) → Agree one other → Agree more rest → Agree (one ++ more) (other ++ rest)
+agree-both one other more rest a b =
+    agree-then (one ++ more) (other ++ more) (other ++ rest) (agree-append one other more a) (agree-before other more rest b)
+
 -- ---- the same scripts
 
 runs-same : (n s : ℕ) (f g : ℕ → ℕ) → ((o : ℕ) → s ≤ o → o < s + n → f o ≡ g o) → runs_over s n f ≡ runs_over s n g
@@ -189,7 +195,7 @@ report-same one other same key =
     ap (λ c. flat key.start key.end c (total one key)) (same.roots key) ∙ flat-same key.start key.end (root other key) (total one key) (total other key) (same.totals key) in
     (λ i. record { name = key.name; block = same.flags key i; ranges = ranges i })
 
-map-each : {A B : Type 0} (f g : A → B) → ((x : A) → f x ≡ g x) → (xs : List A) → map f xs ≡ map g xs
+pub map-each : {A B : Type 0} (f g : A → B) → ((x : A) → f x ≡ g x) → (xs : List A) → map f xs ≡ map g xs
 map-each f g h [] = refl
 map-each f g h (x ∷ xs) = ap (λ y. y ∷ map f xs) (h x) ∙ ap (λ ys. g x ∷ ys) (map-each f g h xs)
 
@@ -292,3 +298,13 @@ unfolding held_of
 agree-held one other same =
     let functions = map-each (sums_of one) (sums_of other) (sums-same one other same) (keys_in_order one) ∙ ap (map (sums_of other)) same.keys in
     (λ i. record { urls = same.urls i; functions = functions i })
+
+-- ---- one outcome
+
+pub come-to-one : (one other : List Snapshot) → Agree one other → ComeToOne one other
+unfolding file
+come-to-one one other same = record {
+  sums = agree-held one other same;
+  fit = agree-fits one other same;
+  file = rw (agree-scripts one other same);
+}

@@ -19,8 +19,8 @@ use Rattle.cov_model.specs.declared.sums.SumFault.{SumFault}
 use Rattle.cov_text.specs.Listing.{inserted, counted, offsets}
 use Rattle.cov_model.specs.Nesting.{or_else}
 use Rattle.cov_model.specs.Sums.{fits, sum_at, sum_fault, passes_limit, limit, points, keys, keys_in_order, file_order, key_of, is_of, reports, root, total}
-use Rattle.cov_model.proofs.Grows.{fits-each}
-use Rattle.cov_book.specs.Counts.{capped, weight, in_script, in_snapshot, first_point, first_sum, fault_with, with_script, with_scripts}
+use Rattle.cov_model.proofs.Grows.{fits-each, sum_at-append}
+use Rattle.cov_book.specs.Counts.{capped, weight, reports_in, passes, past_among, first_point, first_sum, fault_with, with_script, with_scripts}
 
 inserted-append : (xs ys : List Key) (known : List Key) → inserted file_order known (xs ++ ys) ≡ inserted file_order (inserted file_order known xs) ys
 inserted-append [] ys known = refl
@@ -46,12 +46,11 @@ offsets-more o end l =
     let next : suc o ≡ o + 1 = omega arith in
     ap (counted o) n ∙ ap (λ k. o ∷ counted k (end - (o + 1))) next
 
-pub point_more : (held : List Snapshot) (snapshot : Snapshot) (key : Key) (o end : ℕ) → o < end
-    → false ≡ nat_lt limit (sum_by (in_snapshot key (Offset o)) (held ++ snapshot ∷ []))
-    → first_point held snapshot key (map Offset (offsets o end)) ≡ first_point held snapshot key (map Offset (offsets (o + 1) end))
-point_more held snapshot key o end l under =
-    ap (λ os. first_point held snapshot key (map Offset os)) (offsets-more o end l)
-    ∙ ap (λ b. cond b (Some (Offset o)) (first_point held snapshot key (map Offset (offsets (o + 1) end)))) (sym under)
+pub past_more : (before new : List FunctionReport) (o end : ℕ) → o < end → false ≡ passes before new (Offset o)
+    → past_among before new (map Offset (offsets o end)) ≡ past_among before new (map Offset (offsets (o + 1) end))
+past_more before new o end l under =
+    ap (λ os. past_among before new (map Offset os)) (offsets-more o end l)
+    ∙ ap (λ b. cond b (Some (Offset o)) (past_among before new (map Offset (offsets (o + 1) end)))) (sym under)
 
 or-assoc : {A : Type 0} (a b c : Option A) → or_else a (or_else b c) ≡ or_else (or_else a b) c
 or-assoc None b c = refl
@@ -88,19 +87,34 @@ one-script w p [] = refl
 one-script w p (f ∷ fs) =
     sum-cond (p f) w f (filter p fs) ∙ ap (λ n. cond (p f) (w f) 0 + n) (one-script w p fs) ∙ sym (sum_by-cons (λ g. cond (p g) (w g) 0) f fs)
 
-sum-reports : (key : Key) (at : At) (held : List Snapshot) → sum_by (weight at) (reports held key) ≡ sum_by (in_snapshot key at) held
+-- the sum over all reports of all scripts
+abbrev pub weigh : (List ℕ → FunctionReport → ℕ) → List Snapshot → ℕ
+weigh w held = sum_by (λ (snapshot : Snapshot). sum_by (λ (entry : Entry). sum_by (w entry.url) entry.functions) snapshot) held
+
+-- the sum over the reports of a key
+pub weigh-reports : (w : FunctionReport → ℕ) (key : Key) (held : List Snapshot) → sum_by w (reports held key) ≡ weigh (λ url f. cond (is_of key url f) (w f) 0) held
 unfolding reports
-sum-reports key at held =
-    sum-flat (weight at) (λ (snapshot : Snapshot). flat_map (λ (entry : Entry). filter (is_of key entry.url) entry.functions) snapshot) held
-    ∙ sum-each _ (in_snapshot key at)
-    (λ snapshot. sum-flat (weight at) (λ (entry : Entry). filter (is_of key entry.url) entry.functions) snapshot
-    ∙ sum-each _ (in_script key at) (λ entry. one-script (weight at) (is_of key entry.url) entry.functions) snapshot)
+weigh-reports w key held =
+    sum-flat w (λ (snapshot : Snapshot). flat_map (λ (entry : Entry). filter (is_of key entry.url) entry.functions) snapshot) held
+    ∙ sum-each _ (λ (snapshot : Snapshot). sum_by (λ (entry : Entry). sum_by (λ f. cond (is_of key entry.url f) (w f) 0) entry.functions) snapshot)
+    (λ snapshot. sum-flat w (λ (entry : Entry). filter (is_of key entry.url) entry.functions) snapshot
+    ∙ sum-each _ (λ (entry : Entry). sum_by (λ f. cond (is_of key entry.url f) (w f) 0) entry.functions) (λ entry. one-script w (is_of key entry.url) entry.functions) snapshot)
     held
 
-pub sum-is : (held : List Snapshot) (key : Key) (at : At) → sum_at held key at ≡ sum_by (in_snapshot key at) held
+pub sum-is : (held : List Snapshot) (key : Key) (at : At) → sum_at held key at ≡ sum_by (weight at) (reports held key)
 unfolding root total
-sum-is held key Root = sum-reports key Root held
-sum-is held key (Offset o) = sum-reports key (Offset o) held
+sum-is held key Root = refl
+sum-is held key (Offset o) = refl
+
+pub new-is : (snapshot : Snapshot) (key : Key) → reports (snapshot ∷ []) key ≡ reports_in key snapshot
+unfolding reports
+new-is snapshot key = append-nil (reports_in key snapshot)
+
+-- the sum at a point, with what is added
+both-is : (held : List Snapshot) (snapshot : Snapshot) (key : Key) (at : At) → sum_at (held ++ snapshot ∷ []) key at ≡ sum_by (weight at) (reports held key) + sum_by (weight at) (reports_in key snapshot)
+both-is held snapshot key at =
+    sum_at-append held (snapshot ∷ []) key at ∙ ap (λ n. n + sum_at (snapshot ∷ []) key at) (sum-is held key at)
+    ∙ ap (λ n. sum_by (weight at) (reports held key) + n) (sum-is (snapshot ∷ []) key at ∙ ap (sum_by (weight at)) (new-is snapshot key))
 
 -- ---- the first sum past the limit
 
@@ -148,9 +162,9 @@ within-min n m e = grind (arith, nat_tests)
 told-same : (held : List Snapshot) (snapshot : Snapshot) (key : Key) (at : At) → nat_le (sum_at held key at) limit ≡ true → told held snapshot (key, at) ≡ fault_with held snapshot key at
 unfolding told
 told-same held snapshot key at e =
-    let one : sum_by (in_snapshot key at) (snapshot ∷ []) ≡ in_snapshot key at snapshot = sum_by-cons (in_snapshot key at) snapshot [] ∙ omega arith in
-    let before : sum_at held key at ≡ min (sum_by (in_snapshot key at) held) limit = sym (within-min (sum_at held key at) limit e) ∙ ap (λ n. min n limit) (sum-is held key at) in
-    let more : min (sum_at (snapshot ∷ []) key at) (2 ^ 128 - 1) ≡ capped (in_snapshot key at snapshot) = ap capped (sum-is (snapshot ∷ []) key at ∙ one) in
+    let before : sum_at held key at ≡ min (sum_by (weight at) (reports held key)) limit = sym (within-min (sum_at held key at) limit e) ∙ ap (λ n. min n limit) (sum-is held key at) in
+    let more : min (sum_at (snapshot ∷ []) key at) (2 ^ 128 - 1) ≡ capped (sum_by (weight at) (reports_in key snapshot)) =
+    ap capped (sum-is (snapshot ∷ []) key at ∙ ap (sum_by (weight at)) (new-is snapshot key)) in
     (λ i. record { key = key; at = at; held = before i; added = more i })
 
 one-key : (held : List Snapshot) (snapshot : Snapshot) (key : Key) → fits held ≡ true
@@ -163,7 +177,7 @@ one-key held snapshot key fit =
     ∙ find-same (λ at. passes_limit both (key, at)) (λ at. nat_le (sum_at held key at) limit) (λ at. told held snapshot (key, at)) (fault_with held snapshot key)
     (λ at e. told-same held snapshot key at e) (points key) (fits-each held fit key)
     ∙ ap (option_map (fault_with held snapshot key))
-    (find-each (λ at. passes_limit both (key, at)) (λ at. nat_lt limit (sum_by (in_snapshot key at) both)) (λ at. ap (nat_lt limit) (sum-is both key at)) (points key))
+    (find-each (λ at. passes_limit both (key, at)) (passes (reports held key) (reports_in key snapshot)) (λ at. ap (nat_lt limit) (both-is held snapshot key at)) (points key))
 
 all-keys : (held : List Snapshot) (snapshot : Snapshot) → fits held ≡ true → (ks : List Key)
     → option_map (told held snapshot) (find (passes_limit (held ++ snapshot ∷ [])) (flat_map (λ key. map (λ point. (key, point)) (points key)) ks)) ≡ first_sum held snapshot ks

@@ -17,7 +17,8 @@ use Rattle.cov_model.specs.Sums.{fits, sum_at, limit, reports, root, total, flag
 use Rattle.cov_model.specs.Normal.{range, grown, runs_over, maximal_runs, flat}
 use Rattle.cov_model.proofs.Grows.{fits-each}
 use Rattle.cov_model.specs.File.{merged_report}
-use Rattle.cov_book.specs.Found.{with_urls, reports_in, root_sum, total_sum, has_blocks, without_count}
+use Rattle.cov_book.specs.Counts.{reports_in}
+use Rattle.cov_book.specs.Found.{with_urls, root_sum, total_sum, has_blocks, without_count}
 
 pub inserted-append : {A : Type 0} (cmp : A → A → Ordering) (xs ys known : List A) → inserted cmp known (xs ++ ys) ≡ inserted cmp (inserted cmp known xs) ys
 inserted-append cmp [] ys known = refl

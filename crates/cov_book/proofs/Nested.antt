@@ -19,6 +19,7 @@ use Rattle.cov_model.specs.Nesting.{range_fault, fault_from, fault_at, or_else, 
 use Rattle.cov_model.specs.Sums.{reports, root, total, is_of, key_of, keys, keys_in_order, file_order, urls_in_order}
 use Rattle.cov_model.specs.Normal.{range, grown, runs_over, maximal_runs, flat}
 use Rattle.cov_model.specs.File.{merged_report, merged_entry, scripts}
+use Rattle.cov_book.specs.Counts.{reports_in}
 use Rattle.cov_book.specs.Stands.{AreUpright}
 
 -- ---- flat normal lists nest
@@ -190,12 +191,15 @@ keys-upright held h =
     (λ snapshot nested. All-flat_map (λ (entry : Entry). AreReportsNested entry.functions) IsUpright (λ (entry : Entry). filter_map (key_of entry.url) entry.functions)
     (λ entry k. All-keys entry.url entry.functions k) snapshot nested) held h)
 
+pub reports_in-nested : (snapshot : Snapshot) (key : Key) → AreNested snapshot → AreReportsNested (reports_in key snapshot)
+reports_in-nested snapshot key h =
+    All-flat_map (λ (entry : Entry). AreReportsNested entry.functions) (λ (f : FunctionReport). range_fault f.ranges ≡ None) (λ (entry : Entry). filter (is_of key entry.url) entry.functions)
+    (λ entry k. All-filter (λ (f : FunctionReport). range_fault f.ranges ≡ None) (is_of key entry.url) entry.functions k) snapshot h
+
 pub reports-nested : (held : List Snapshot) (key : Key) → AllByRecursion AreNested held → AreReportsNested (reports held key)
 unfolding reports
 reports-nested held key h =
-    All-flat_map AreNested (λ (f : FunctionReport). range_fault f.ranges ≡ None) (λ (snapshot : Snapshot). flat_map (λ (entry : Entry). filter (is_of key entry.url) entry.functions) snapshot)
-    (λ snapshot nested. All-flat_map (λ (entry : Entry). AreReportsNested entry.functions) (λ (f : FunctionReport). range_fault f.ranges ≡ None) (λ (entry : Entry). filter (is_of key entry.url) entry.functions)
-    (λ entry k. All-filter (λ (f : FunctionReport). range_fault f.ranges ≡ None) (is_of key entry.url) entry.functions k) snapshot nested) held h
+    All-flat_map AreNested (λ (f : FunctionReport). range_fault f.ranges ≡ None) (reports_in key) (λ snapshot nested. reports_in-nested snapshot key nested) held h
 
 all-any : {A : Type 0} (P : A → Type 0) → ((x : A) → P x) → (xs : List A) → AllByRecursion P xs
 all-any P h [] = tt

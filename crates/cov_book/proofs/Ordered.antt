@@ -1,16 +1,16 @@
 -- A set in order has the elements that it was made of, and is told by them.
-use Rattle.std.proofs.Common.{◌≡◌, Bool, true, false, List, [], ◌∷◌, refl, sym, ap, ◌∙◌}
+use Rattle.std.proofs.Common.{◌≡◌, ℕ, Bool, true, false, List, [], ◌∷◌, refl, sym, ap, ◌∙◌}
 use Rattle.std.specs.Prelude.{◌||◌, ◌&&◌, ◌==◌}
 use Rattle.std.specs.List.{AllByRecursion, list_any}
 use Rattle.std.specs.List.Sorted.{IsStrictlySortedBy}
 use Rattle.std.specs.declared.cmp.Ordering.{Ordering}
 use Rattle.std.specs.declared.cmp.Ordering.TheVariants.{Less, Equal, Greater}
-use Rattle.std.specs.Ordering.{ordering_then, ordering_reverse, match_ordering}
-use Rattle.std.specs.Cmp.{IsTotalOrder}
+use Rattle.std.specs.Ordering.{ordering_then, ordering_reverse, match_ordering, is_eq}
+use Rattle.std.specs.Cmp.{IsTotalOrder, both_ways}
 use Rattle.std.specs.BTreeSet.{BTreeSet, insert_key}
 use Rattle.std.specs.BTreeMap.{is_at}
 use Rattle.std.proofs.lemmas.Bool.Decides.{Decides-eqb}
-use Rattle.std.proofs.lemmas.Cmp.{nat_cmp_total, nat_list_cmp_total, on_total, then_total, back_total}
+use Rattle.std.proofs.lemmas.Cmp.{tied_itself, nat_cmp_total, nat_list_cmp_total, on_total, then_total, back_total}
 use Rattle.std.proofs.lemmas.Map.Lookups.{CmpEqualImpliesEq, btree_set_from_contains, exact_bytes, exact_unsigned}
 use Rattle.std.proofs.lemmas.Slice.Eq.{bytes_eq-Decides}
 use Rattle.cov_model.specs.declared.sums.Key.{Key}
@@ -121,13 +121,14 @@ any-inserted cmp exact p (x ∷ xs) ks =
 pub any-in_order : {A : Type 0} (cmp : A → A → Ordering) → CmpEqualImpliesEq cmp → (p : A → Bool) (xs : List A) → list_any p (in_order cmp xs) ≡ list_any p xs
 any-in_order cmp exact p xs = any-inserted cmp exact p xs [] ∙ or-false (list_any p xs)
 
--- Lists of the same elements are one in order.
-pub in_order-same : {A : Type 0} (cmp : A → A → Ordering) → IsTotalOrder cmp → CmpEqualImpliesEq cmp → (xs ys : List A) → ((p : A → Bool) → list_any p xs ≡ list_any p ys) → in_order cmp xs ≡ in_order cmp ys
-in_order-same {A = A} cmp total exact xs ys same =
-    let s : BTreeSet A = record { keys = in_order cmp xs } in
-    let t : BTreeSet A = record { keys = in_order cmp ys } in
-    btree_set_from_contains total s t (in_order-sorted cmp total xs) (in_order-sorted cmp total ys)
-    (λ q. any-in_order cmp exact (is_at (cmp q)) xs ∙ same (is_at (cmp q)) ∙ sym (any-in_order cmp exact (is_at (cmp q)) ys)) exact
+any-each : {A : Type 0} (p q : A → Bool) → ((x : A) → p x ≡ q x) → (xs : List A) → list_any p xs ≡ list_any q xs
+any-each p q h [] = refl
+any-each p q h (x ∷ xs) = ap (λ b. b || list_any p xs) (h x) ∙ ap (λ b. q x || b) (any-each p q h xs)
+
+at-equal : (o : Ordering) → is_eq o ≡ true → o ≡ Equal
+at-equal Less e = absurd cc
+at-equal Equal e = refl
+at-equal Greater e = absurd cc
 
 -- ---- keys by their parts
 
@@ -145,3 +146,35 @@ same-is a b e =
     let end : a.end ≡ b.end = (Decides-eqb a.end b.end).0 r.0 in
     let name = (bytes_eq-Decides a.name b.name).0 r.1 in
     (λ i. record { url = url i; start = start i; end = end i; name = name i })
+
+pub is-same : (a b : Key) → a ≡ b → same_key a b ≡ true
+is-same a b e =
+    let itself : same_key a a ≡ true =
+    ap (λ t. t && (a.start == a.start && (a.end == a.end && same_text a.name a.name))) ((bytes_eq-Decides a.url a.url).1 refl)
+    ∙ ap (λ t. t && (a.end == a.end && same_text a.name a.name)) ((Decides-eqb a.start a.start).1 refl)
+    ∙ ap (λ t. t && same_text a.name a.name) ((Decides-eqb a.end a.end).1 refl)
+    ∙ (bytes_eq-Decides a.name a.name).1 refl in
+    ap (same_key a) (sym e) ∙ itself
+
+-- ---- told by the tests for one element
+
+in_order-tested : {A : Type 0} (cmp : A → A → Ordering) → IsTotalOrder cmp → CmpEqualImpliesEq cmp → (same : A → A → Bool)
+    → ((x y : A) → same x y ≡ true → x ≡ y) → ((x y : A) → x ≡ y → same x y ≡ true)
+    → (xs ys : List A) → ((x : A) → list_any (same x) xs ≡ list_any (same x) ys) → in_order cmp xs ≡ in_order cmp ys
+in_order-tested {A = A} cmp total exact same to from xs ys has =
+    let s : BTreeSet A = record { keys = in_order cmp xs } in
+    let t : BTreeSet A = record { keys = in_order cmp ys } in
+    let tests : (x y : A) → is_at (cmp x) y ≡ same x y =
+    λ x y.
+    both_ways (is_at (cmp x) y) (same x y) (λ h. from x y (exact x y (at-equal (cmp x y) h)))
+    (λ h. ap is_eq (ap (cmp x) (sym (to x y h)) ∙ tied_itself total x)) in
+    let moved : (x : A) (zs : List A) → list_any (is_at (cmp x)) zs ≡ list_any (same x) zs = λ x. any-each (is_at (cmp x)) (same x) (tests x) in
+    btree_set_from_contains total s t (in_order-sorted cmp total xs) (in_order-sorted cmp total ys)
+    (λ q. any-in_order cmp exact (is_at (cmp q)) xs ∙ moved q xs ∙ has q ∙ sym (moved q ys) ∙ sym (any-in_order cmp exact (is_at (cmp q)) ys)) exact
+
+-- Lists of the same urls are one in order, and so are lists of the same keys.
+pub urls-same : (xs ys : List (List ℕ)) → ((url : List ℕ) → list_any (same_text url) xs ≡ list_any (same_text url) ys) → in_order text_cmp xs ≡ in_order text_cmp ys
+urls-same xs ys has = in_order-tested text_cmp text_total text_exact same_text (λ x y. (bytes_eq-Decides x y).0) (λ x y. (bytes_eq-Decides x y).1) xs ys has
+
+pub keys-same : (xs ys : List Key) → ((key : Key) → list_any (same_key key) xs ≡ list_any (same_key key) ys) → in_order file_order xs ≡ in_order file_order ys
+keys-same xs ys has = in_order-tested file_order file_total file_exact same_key same-is is-same xs ys has

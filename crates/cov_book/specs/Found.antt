@@ -1,22 +1,16 @@
 -- Sums of the reports of one function, as code finds them.
-use Rattle.std.specs.Prelude.{ℕ, min, not, Bool, List, map, filter, flat_map, sum_by, ◌==◌}
+use Rattle.std.specs.Prelude.{ℕ, min, not, Bool, List, map, filter, sum_by, ◌==◌}
 use Rattle.std.specs.List.{list_any}
 use Rattle.cov_model.specs.declared.report.FunctionReport.{FunctionReport}
 use Rattle.cov_model.specs.declared.report.Range.{Range}
 use Rattle.cov_model.specs.declared.snapshot.Entry.{Entry}
-use Rattle.cov_model.specs.declared.snapshot.Snapshot.{Snapshot}
-use Rattle.cov_model.specs.declared.sums.Key.{Key}
 use Rattle.cov_text.specs.Listing.{inserted, text_cmp}
 use Rattle.cov_model.specs.Nesting.{inner_count}
-use Rattle.cov_model.specs.Sums.{limit, root_count, is_of}
+use Rattle.cov_model.specs.Sums.{limit, root_count}
 
 -- the urls with those of scripts
 abbrev pub with_urls : List (List ℕ) → List Entry → List (List ℕ)
 with_urls known entries = inserted text_cmp known (map (λ entry. entry.url) entries)
-
--- the reports of a key in one snapshot
-abbrev pub reports_in : Key → Snapshot → List FunctionReport
-reports_in key snapshot = flat_map (λ entry. filter (is_of key entry.url) entry.functions) snapshot
 
 -- the sum of the root counts, and that of the innermost counts at an offset, as far as 64 bits go
 abbrev pub root_sum : List FunctionReport → ℕ

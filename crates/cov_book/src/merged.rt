@@ -1,17 +1,18 @@
 //! The scripts of a list of snapshots, each function with its sums.
-ghost use Rattle.std.specs.Prelude.{◌≡◌, ◌<◌, ◌-◌, ◌^◌, ◌∷◌, ◌++◌, map, IfOk, OnOk, true, filter, reverse};
+ghost use Rattle.std.specs.Prelude.{◌≡◌, ◌<◌, ◌-◌, ◌^◌, ◌∷◌, map, min, sum_by, IfOk, OnOk, true, filter, reverse};
 ghost use Rattle.cov_text.specs.Listing.{same_text};
 ghost use Rattle.cov_model.specs.Nesting.{AreNested, AreReportsNested};
 ghost use Rattle.std.specs.List.{AllByRecursion};
-ghost use Rattle.cov_model.specs.Sums.{fits, is_of, reports, urls_in_order, keys_in_order};
+ghost use Rattle.cov_model.specs.Sums.{fits, limit, urls_in_order, keys_in_order};
 ghost use Rattle.cov_model.specs.Normal.{range, grown, maximal_runs};
 ghost use Rattle.cov_model.specs.File.{merged_report, merged_entry, scripts};
 ghost use Rattle.cov_book.specs.Stands.{AreUpright};
-ghost use Rattle.cov_book.specs.Found.{with_urls, reports_in, root_sum, total_sum, has_blocks, without_count};
+ghost use Rattle.cov_book.specs.Counts.{weight};
+ghost use Rattle.cov_book.specs.Found.{with_urls, total_sum, has_blocks, without_count};
 
-use crate::faults::{held_keys, is_one};
-use cov_model::{Entry, FunctionReport, Items, Key, Range, Snapshot, Text};
-use cov_ranges::count_at;
+use crate::faults::{LIMIT, held_keys};
+use crate::found::{reports_of, sum_of};
+use cov_model::{At, Entry, FunctionReport, Items, Key, Range, Snapshot, Text};
 use std::alloc::{AllocError, Global};
 use std::collections::BTreeSet;
 
@@ -21,8 +22,8 @@ pub fn scripts_of(alloc: Global, held: &[Snapshot]) -> Result<Snapshot, AllocErr
     ensures value { IfOk result (λ snapshot. snapshot ≡ scripts held.now) }
     ensures upright { OnOk result (AreUpright (keys_in_order held.now)) }
 {
-    let urls = urls_of(alloc, held)?;
     let keys = held_keys(alloc, held)?;
+    let urls = urls_of(alloc, held)?;
     let entries = entries_of(alloc, held, &keys, &urls)?;
     Ok(Snapshot::new(entries))
 }
@@ -95,7 +96,8 @@ fn report_of(alloc: Global, held: &[Snapshot], key: &Key) -> Result<FunctionRepo
 {
     let found = reports_of(alloc, held, key)?;
     let runs = runs_of(alloc, &found, key)?;
-    let ranges = normal_list(alloc, key, root_of(&found), &runs)?;
+    let count = sum_within(&found, At::Root);
+    let ranges = normal_list(alloc, key, count, &runs)?;
     Ok(FunctionReport {
         name: key.name.clone()?,
         block: is_block(&found),
@@ -103,7 +105,7 @@ fn report_of(alloc: Global, held: &[Snapshot], key: &Key) -> Result<FunctionRepo
     })
 }
 
-/// A root, and before it in reverse the runs of another count.
+/// A root, and behind it the runs of another count, which are given from the last to the first.
 fn normal_list(
     alloc: Global,
     key: &Key,
@@ -135,7 +137,7 @@ fn runs_of(alloc: Global, found: &[&FunctionReport], key: &Key) -> Result<Vec<Ra
     let mut offset = key.end;
     while key.start < offset {
         offset -= 1;
-        let count = total_of(found, offset);
+        let count = sum_within(found, At::Offset(offset));
         extend_down(&mut runs, offset, count)?;
     }
     Ok(runs)
@@ -162,28 +164,12 @@ fn extend_down(runs: &mut Vec<Range>, offset: u32, count: u64) -> Result<(), All
     Ok(())
 }
 
-/// The sum of the innermost counts of reports at an offset.
-fn total_of(found: &[&FunctionReport], offset: u32) -> u64
+/// The sum of the counts of reports at a point, as far as 64 bits go.
+fn sum_within(found: &[&FunctionReport], at: At) -> u64
     requires { AreReportsNested (map (λ r. r.now) found.now) }
-    ensures { result ≡ total_sum (map (λ r. r.now) found.now) offset }
+    ensures { result ≡ min (sum_by (weight at) (map (λ r. r.now) found.now)) limit }
 {
-    let mut sum = 0u64;
-    for report in found {
-        sum = sum.saturating_add(count_at(report, offset).unwrap_or(0));
-    }
-    sum
-}
-
-/// The sum of the root counts of reports.
-fn root_of(found: &[&FunctionReport]) -> u64
-    ensures { result ≡ root_sum (map (λ r. r.now) found.now) }
-{
-    let mut sum = 0u64;
-    for report in found {
-        let count = report.ranges.get(0).map(|root| root.count).unwrap_or(0);
-        sum = sum.saturating_add(count);
-    }
-    sum
+    sum_of(found, at).min(LIMIT) as u64
 }
 
 /// Whether one of the reports has blocks.
@@ -197,53 +183,9 @@ fn is_block(found: &[&FunctionReport]) -> bool
     block
 }
 
-/// The reports of a key.
-fn reports_of<'a>(
-    alloc: Global,
-    held: &'a [Snapshot],
-    key: &Key,
-) -> Result<Vec<&'a FunctionReport>, AllocError>
-    ensures { IfOk result (λ found. map (λ r. r.now) found.items ≡ reports held.now key.now) }
-{
-    let mut found = Vec::new(alloc);
-    for snapshot in held {
-        add_reports(&mut found, snapshot, key)?;
-    }
-    Ok(found)
-}
-
-fn add_reports<'a>(
-    found: &mut Vec<&'a FunctionReport>,
-    snapshot: &'a Snapshot,
-    key: &Key,
-) -> Result<(), AllocError>
-    ensures { OnOk result (map (λ r. r.now) found.new.items ≡ map (λ r. r.now) found.old.items ++ reports_in key.now snapshot.now) }
-{
-    for entry in snapshot.scripts() {
-        add_script_reports(found, entry, key)?;
-    }
-    Ok(())
-}
-
-fn add_script_reports<'a>(
-    found: &mut Vec<&'a FunctionReport>,
-    entry: &'a Entry,
-    key: &Key,
-) -> Result<(), AllocError>
-    ensures { OnOk result (map (λ r. r.now) found.new.items ≡ map (λ r. r.now) found.old.items ++ filter (is_of key.now entry.now.url) entry.now.functions) }
-{
-    for report in entry.functions.as_slice() {
-        if is_one(key, &entry.url, report) {
-            found.push(report)?;
-        }
-    }
-    Ok(())
-}
-
 /// The urls of snapshots, in byte order.
 fn urls_of(alloc: Global, held: &[Snapshot]) -> Result<BTreeSet<Text>, AllocError>
-    ensures urls { IfOk result (λ urls. urls.keys ≡ urls_in_order held.now) }
-    ensures nested { OnOk result (AllByRecursion AreNested held.now) }
+    ensures { IfOk result (λ urls. urls.keys ≡ urls_in_order held.now) }
 {
     let mut urls = BTreeSet::new(alloc);
     for snapshot in held {
@@ -253,8 +195,7 @@ fn urls_of(alloc: Global, held: &[Snapshot]) -> Result<BTreeSet<Text>, AllocErro
 }
 
 fn add_urls(urls: &mut BTreeSet<Text>, snapshot: &Snapshot) -> Result<(), AllocError>
-    ensures urls { OnOk result (urls.new.keys ≡ with_urls urls.old.keys snapshot.now) }
-    ensures nested { AreNested snapshot.now }
+    ensures { OnOk result (urls.new.keys ≡ with_urls urls.old.keys snapshot.now) }
 {
     for entry in snapshot.scripts() {
         urls.insert(entry.url.clone()?)?;

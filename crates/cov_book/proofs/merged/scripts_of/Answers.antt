@@ -14,12 +14,12 @@ scripts-is held urls entries u e = e ∙ ap (map (merged_entry held)) u
 pub new-requires : goal.new-requires
 new-requires c =
     let held = c.args.held.now in
-    subst AreNested (sym (scripts-is held c.in_ok-urls.urls.keys c.in_ok-entries.entries c.in_ok-urls.ensures.urls c.in_ok-entries.ensures)) (scripts-nested held c.in_ok-urls.ensures.nested)
+    subst AreNested (sym (scripts-is held c.in_ok-urls.urls.keys c.in_ok-entries.entries c.in_ok-urls.ensures c.in_ok-entries.ensures)) (scripts-nested held c.in_ok-keys.ensures.nested)
 
 pub returns-clause-upright : goal.returns-clause-upright
-returns-clause-upright c = keys-upright c.args.held.now c.in_ok-urls.ensures.nested
+returns-clause-upright c = keys-upright c.args.held.now c.in_ok-keys.ensures.nested
 
 pub returns-clause-value : goal.returns-clause-value
 returns-clause-value c =
     let held = c.args.held.now in
-    c.new.ensures ∙ scripts-is held c.in_ok-urls.urls.keys c.in_ok-entries.entries c.in_ok-urls.ensures.urls c.in_ok-entries.ensures
+    c.new.ensures ∙ scripts-is held c.in_ok-urls.urls.keys c.in_ok-entries.entries c.in_ok-urls.ensures c.in_ok-entries.ensures

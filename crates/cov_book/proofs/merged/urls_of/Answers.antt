@@ -1,11 +1,8 @@
-use Rattle.std.proofs.Common.{sym, ap, ◌∙◌, subst, take, drop, ◌+◌, ◌++◌, ◌∷◌, [], arith}
-use Rattle.std.specs.List.{AllByRecursion}
-use Rattle.std.proofs.lemmas.List.{take_more, take_all, drop_more}
+use Rattle.std.proofs.Common.{sym, ap, ◌∙◌, drop, ◌+◌, ◌∷◌}
+use Rattle.std.proofs.lemmas.List.{drop_more}
 use Rattle.cov_text.specs.Listing.{inserted, text_cmp}
-use Rattle.cov_model.specs.Nesting.{AreNested}
 use Rattle.cov_model.specs.Sums.{urls}
 use Rattle.cov_book.proofs.Merging.{with_urls-more}
-use Rattle.cov_book.proofs.Nested.{All-push}
 use Rattle.cov_book.proofs.merged.urls_of.Goals as goal
 
 pub loop-snapshot-preserved : goal.loop-snapshot-preserved
@@ -14,14 +11,8 @@ loop-snapshot-preserved c =
     let k = c.loop-snapshot.snapshot-index in
     let item = c.snapshot-item.result in
     let rest = drop (k + 1) held in
-    let known = c.loop-snapshot.urls.keys in (
-      ap (λ ks. inserted text_cmp ks (urls rest)) c.in_ok-add_urls.ensures.urls
-          ∙ sym (with_urls-more known item rest)
-          ∙ sym (ap (λ xs. inserted text_cmp known (urls xs)) (drop_more held k item c.loop-snapshot-test.true ∙ ap (λ s. s ∷ rest) (sym c.snapshot-item.is)))
-          ∙ c.loop-snapshot.invariant.0,
-      subst (AllByRecursion AreNested) (sym (take_more held k item c.loop-snapshot-test.true ∙ ap (λ s. take k held ++ s ∷ []) (sym c.snapshot-item.is)))
-          (All-push AreNested (take k held) item c.loop-snapshot.invariant.1 c.in_ok-add_urls.ensures.nested),
-    )
-
-pub returns-clause-nested : goal.returns-clause-nested
-returns-clause-nested c = subst (AllByRecursion AreNested) (take_all c.loop-snapshot.snapshot-index c.args.held.now (omega (arith, c.loop-snapshot-test.false))) c.loop-snapshot.invariant.1
+    let known = c.loop-snapshot.urls.keys in
+    ap (λ ks. inserted text_cmp ks (urls rest)) c.in_ok-add_urls.ensures
+    ∙ sym (with_urls-more known item rest)
+    ∙ sym (ap (λ xs. inserted text_cmp known (urls xs)) (drop_more held k item c.loop-snapshot-test.true ∙ ap (λ s. s ∷ rest) (sym c.snapshot-item.is)))
+    ∙ c.loop-snapshot.invariant

@@ -1,10 +1,7 @@
-use Rattle.std.proofs.Common.{◌≡◌, take, drop}
-use Rattle.std.specs.List.{AllByRecursion}
+use Rattle.std.proofs.Common.{◌≡◌, drop}
 use Rattle.cov_text.specs.Listing.{inserted, text_cmp}
-use Rattle.cov_model.specs.Nesting.{AreNested}
 use Rattle.cov_model.specs.Sums.{urls, urls_in_order}
 use Rattle.cov_book.proofs.merged.urls_of.Given as goal
 
 abbrev pub invariant-loop-snapshot : goal.invariant-loop-snapshot
-invariant-loop-snapshot l =
-    (inserted text_cmp l.urls.keys (urls (drop l.snapshot-index l.held)) ≡ urls_in_order l.held) × AllByRecursion AreNested (take l.snapshot-index l.held)
+invariant-loop-snapshot l = inserted text_cmp l.urls.keys (urls (drop l.snapshot-index l.held)) ≡ urls_in_order l.held
