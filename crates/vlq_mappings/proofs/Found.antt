@@ -137,12 +137,15 @@ pub record SegmentFound (last : Last) (vs : List Value) (x : Segment × Last) : 
   pub all_moved : AllMoved (last_numbers last) vs (numbers x.0)
   pub then : x.1 ≡ behind last x.0
 
+same_found : (last : Last) (vs : List Value) (made x : Segment × Last) → ◌≡◌ {A = Result (Segment × Last) VlqFault} (Ok made) (Ok x) → AllMoved (last_numbers last) vs (numbers made.0)
+    → made.1 ≡ behind last made.0 → SegmentFound last vs x
+same_found last vs made x e all then = subst (SegmentFound last vs) (ok_same made x e) (record { all_moved = all; then = then })
+
 pub segment_moved : (place : ℕ) (last : Last) (vs : List Value) (x : Segment × Last) → segment_of place last vs ≡ Ok x → SegmentFound last vs x
 segment_moved place last [] x e = cc
 segment_moved place last (c ∷ []) x e =
     let a = bound (moved last.column c) _ x e in
-    let same = ok_same _ _ a.then in
-    subst (SegmentFound last (c ∷ [])) same (record { all_moved = (a.first, tt); then = refl })
+    same_found last (c ∷ []) (record { column = a.value; origin = None }, record last { column = a.value }) x a.then (a.first, tt) refl
 segment_moved place last (c ∷ s ∷ []) x e = cc
 segment_moved place last (c ∷ s ∷ l ∷ []) x e = cc
 segment_moved place last (c ∷ s ∷ l ∷ o ∷ []) x e =
@@ -150,14 +153,14 @@ segment_moved place last (c ∷ s ∷ l ∷ o ∷ []) x e =
     let b = bound (moved last.source s) _ x a.then in
     let d = bound (moved last.line l) _ x b.then in
     let f = bound (moved last.original o) _ x d.then in
-    let same = ok_same _ _ f.then in
-    subst (SegmentFound last (c ∷ s ∷ l ∷ o ∷ [])) same (record { all_moved = (a.first, (b.first, (d.first, (f.first, tt)))); then = refl })
+    same_found last (c ∷ s ∷ l ∷ o ∷ [])
+    (record { column = a.value; origin = Some (record { source = b.value; line = d.value; column = f.value; name = None }) }, record last { column = a.value; source = b.value; line = d.value; original = f.value }) x f.then (a.first, (b.first, (d.first, (f.first, tt)))) refl
 segment_moved place last (c ∷ s ∷ l ∷ o ∷ n ∷ []) x e =
     let a = bound (moved last.column c) _ x e in
     let b = bound (moved last.source s) _ x a.then in
     let d = bound (moved last.line l) _ x b.then in
     let f = bound (moved last.original o) _ x d.then in
     let g = bound (moved last.name n) _ x f.then in
-    let same = ok_same _ _ g.then in
-    subst (SegmentFound last (c ∷ s ∷ l ∷ o ∷ n ∷ [])) same (record { all_moved = (a.first, (b.first, (d.first, (f.first, (g.first, tt))))); then = refl })
+    same_found last (c ∷ s ∷ l ∷ o ∷ n ∷ [])
+    (record { column = a.value; origin = Some (record { source = b.value; line = d.value; column = f.value; name = Some g.value }) }, record { column = a.value; source = b.value; line = d.value; original = f.value; name = g.value }) x g.then (a.first, (b.first, (d.first, (f.first, (g.first, tt))))) refl
 segment_moved place last (c ∷ s ∷ l ∷ o ∷ n ∷ y ∷ vs) x e = cc
