@@ -1,6 +1,6 @@
 -- A command over a store and sinks that never fail.
-use Rattle.std.proofs.Common.{◌≡◌, ℕ, ◌<◌, ◌≤◌, true, false, List, refl, sym, ap, ◌∙◌, subst, arith, rules, inl, inr}
-use Rattle.std.specs.Prelude.{◌⊎◌, Option, None, Some, IsSome, IsTrue, IsFalse, IsSomeAnd, option_map, option_and_then}
+use Rattle.std.proofs.Common.{◌≡◌, ℕ, List, refl, sym, ap, subst, arith, rules, inl, inr}
+use Rattle.std.specs.Prelude.{◌⊎◌, Some, IsSome, IsTrue, IsSomeAnd, option_map, option_and_then}
 use Rattle.std.specs.Io.KnownBytes.{Appends}
 use Rattle.cov_io.specs.Causes.{Rose}
 use Rattle.cov_io.specs.Told.{WhereTold, is_among}
@@ -9,9 +9,9 @@ use Rattle.cov_io.specs.declared.memory.SureStore.{SureStore}
 use Rattle.cov_io.specs.declared.memory.SureSink.{SureSink}
 use Rattle.cov_commands.specs.declared.ended.Ended.{Ended}
 use Rattle.cov_commands.specs.declared.ended.Ended.TheVariants.{Done, Usage, SomeRefused, ReadFault, WriteFault, NoMemory}
-use Rattle.cov_commands.specs.Due.{Due, due, folder_of, merge_due, NamesAbsent, FolderIsMissing}
+use Rattle.cov_commands.specs.Due.{due, folder_of, merge_due, NamesAbsent, FolderIsMissing}
 use Rattle.cov_commands.specs.Ends.{IsFinished, IsFinishedOrShort}
-use Rattle.cov_commands.specs.Sure.{IsDue, GivesDue}
+use Rattle.cov_commands.specs.Sure.{GivesDue}
 
 finished_or_short : (ended : Ended) → IsFinishedOrShort ended → (ended ≡ NoMemory) ⊎ IsFinished ended
 finished_or_short Done h = inr tt
