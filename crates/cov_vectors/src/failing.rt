@@ -112,3 +112,28 @@ fn each_failing_call_ends_the_command(rt: HostRuntime) -> Result<(), Fail> {
     };
     ends(&rt, &failing, good, "fault: write\n", Ended::WriteFault)
 }
+
+// Without memory the command says so, and has written a prefix of what is due; else it ends as it is due.
+#[test]
+fn want_of_memory_turns_into_no_other_answer(rt: HostRuntime) -> Result<(), Fail> {
+    let alloc = rt.alloc();
+    let words = words_of(alloc, &["merge", "cov"])?;
+    let good = one(alloc, &[(0, 10, 1)])?;
+    let mut store = store_of(alloc, &[("cov/a.json", good.as_str()), ("cov/b.json", "[")])?;
+    let mut out = sink_of(alloc, &[])?;
+    let mut err = sink_of(alloc, &[])?;
+    let answer = run_tool(alloc, words.as_slice(), &mut store, &mut out, &mut err);
+    assert!(rt;
+        good.as_bytes().starts_with(text_of(&out)),
+        "a prefix of the output"
+    );
+    assert!(rt;
+        answer == Ended::SomeRefused || answer == Ended::NoMemory,
+        "the answer"
+    );
+    assert!(rt;
+        answer == Ended::NoMemory || text_of(&out) == good.as_bytes(),
+        "the output"
+    );
+    Ok(())
+}

@@ -4,6 +4,8 @@
 #[cfg(test)]
 mod failing;
 #[cfg(test)]
+mod fields;
+#[cfg(test)]
 mod merging;
 #[cfg(test)]
 mod outside;
