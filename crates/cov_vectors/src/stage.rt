@@ -7,10 +7,10 @@ use std::process::Abort;
 use std::test::Fail;
 
 /// A range as the tests write it: start, end, count.
-pub type Given = (u32, u32, u64);
+pub(crate) type Given = (u32, u32, u64);
 
 /// A file of the folder in memory: its path and its text.
-pub type GivenFile<'a> = (&'a str, &'a str);
+pub(crate) type GivenFile<'a> = (&'a str, &'a str);
 
 fn range_text(alloc: Global, range: Given) -> Result<String, AllocError> {
     let (start, end, count) = range;
@@ -18,7 +18,11 @@ fn range_text(alloc: Global, range: Given) -> Result<String, AllocError> {
 }
 
 /// The JSON text of a function.
-pub fn function_text(alloc: Global, name: &str, ranges: &[Given]) -> Result<String, AllocError> {
+pub(crate) fn function_text(
+    alloc: Global,
+    name: &str,
+    ranges: &[Given],
+) -> Result<String, AllocError> {
     let mut listed = String::new(alloc);
     for range in ranges {
         if !listed.is_empty() {
@@ -32,7 +36,7 @@ pub fn function_text(alloc: Global, name: &str, ranges: &[Given]) -> Result<Stri
 }
 
 /// The JSON text of a script with these functions, which are joined already.
-pub fn script_text(
+pub(crate) fn script_text(
     alloc: Global,
     id: &str,
     url: &str,
@@ -42,19 +46,19 @@ pub fn script_text(
 }
 
 /// The JSON text of these scripts, which are joined already.
-pub fn snapshot_text(alloc: Global, scripts: &str) -> Result<String, AllocError> {
+pub(crate) fn snapshot_text(alloc: Global, scripts: &str) -> Result<String, AllocError> {
     format!(in alloc; "{{\"result\":[{scripts}]}}")
 }
 
 /// The JSON text of one script `file:///a.js` with one function without a name.
-pub fn one(alloc: Global, ranges: &[Given]) -> Result<String, AllocError> {
+pub(crate) fn one(alloc: Global, ranges: &[Given]) -> Result<String, AllocError> {
     let function = function_text(alloc, "", ranges)?;
     let script = script_text(alloc, "0", "file:///a.js", function.as_str())?;
     snapshot_text(alloc, script.as_str())
 }
 
 /// A store with the folder `cov` and these files.
-pub fn store_of(alloc: Global, files: &[GivenFile<'_>]) -> Result<MemStore, AllocError> {
+pub(crate) fn store_of(alloc: Global, files: &[GivenFile<'_>]) -> Result<MemStore, AllocError> {
     let mut folders = Items::new(alloc);
     folders.push(Text::from_text(alloc, "cov")?)?;
     let mut held = Items::new(alloc);
@@ -76,7 +80,7 @@ pub fn store_of(alloc: Global, files: &[GivenFile<'_>]) -> Result<MemStore, Allo
 }
 
 /// An empty sink whose calls of these numbers fail.
-pub fn sink_of(alloc: Global, failing: &[u64]) -> Result<MemSink, AllocError> {
+pub(crate) fn sink_of(alloc: Global, failing: &[u64]) -> Result<MemSink, AllocError> {
     Ok(MemSink {
         bytes: Items::new(alloc),
         calls: 0,
@@ -86,7 +90,7 @@ pub fn sink_of(alloc: Global, failing: &[u64]) -> Result<MemSink, AllocError> {
 }
 
 /// The words of a command line.
-pub fn words_of(alloc: Global, words: &[&str]) -> Result<Vec<String>, AllocError> {
+pub(crate) fn words_of(alloc: Global, words: &[&str]) -> Result<Vec<String>, AllocError> {
     let mut given = Vec::new(alloc);
     for word in words {
         given.push(String::from_str(alloc, word)?)?;
@@ -95,7 +99,7 @@ pub fn words_of(alloc: Global, words: &[&str]) -> Result<Vec<String>, AllocError
 }
 
 /// Runs `merge cov` over these files, and asserts what it writes and how it ends.
-pub fn merges<R: Abort + AllocGlobal>(
+pub(crate) fn merges<R: Abort + AllocGlobal>(
     rt: &R,
     files: &[GivenFile<'_>],
     out: &str,
@@ -115,6 +119,6 @@ pub fn merges<R: Abort + AllocGlobal>(
 }
 
 /// The bytes that a sink holds.
-pub fn text_of(sink: &MemSink) -> &[u8] {
+pub(crate) fn text_of(sink: &MemSink) -> &[u8] {
     sink.bytes.as_slice()
 }
