@@ -42,7 +42,7 @@ once-step true rest here there all is none nothing e = ap (λ xs. xs ++ there) (
 once-step false rest here there all is none nothing e = ap (λ xs. xs ++ there) (nothing refl) ∙ e
 
 -- what is made of one element alone, over a rising list
-once : {A B : Type 0} (cmp : A → A → Ordering) → IsTotalOrder cmp → (test : A → Bool) (x : A) → ((y : A) → test y ≡ true → x ≡ y) → (g : A → List B) → ((y : A) → test y ≡ false → g y ≡ [])
+pub once : {A B : Type 0} (cmp : A → A → Ordering) → IsTotalOrder cmp → (test : A → Bool) (x : A) → ((y : A) → test y ≡ true → x ≡ y) → (g : A → List B) → ((y : A) → test y ≡ false → g y ≡ [])
     → (ys : List A) → IsStrictlySortedBy cmp ys → flat_map g ys ≡ cond (list_any test ys) (g x) []
 unfolding IsStrictlySortedBy
 once cmp total test x only g none [] h = refl
@@ -85,10 +85,10 @@ one-by-one p f q (x ∷ xs) =
       | false ↦ one-by-one p f q xs
     ]
 
-text-is : (a b : List ℕ) → same_text a b ≡ true → a ≡ b
+pub text-is : (a b : List ℕ) → same_text a b ≡ true → a ≡ b
 text-is a b = (bytes_eq-Decides a b).0
 
-is-text : (a b : List ℕ) → a ≡ b → same_text a b ≡ true
+pub is-text : (a b : List ℕ) → a ≡ b → same_text a b ≡ true
 is-text a b = (bytes_eq-Decides a b).1
 
 made-none : (held : List Snapshot) (key k : Key) → same_key key k ≡ false → made held key k ≡ []
@@ -115,7 +115,7 @@ merged-here held key =
 
 -- the url of a key stands among the urls
 
-or-right : (a b : Bool) → b ≡ true → (a || b) ≡ true
+pub or-right : (a b : Bool) → b ≡ true → (a || b) ≡ true
 or-right true b e = refl
 or-right false b e = e
 
@@ -146,7 +146,7 @@ of-url key entry e = by (same_text key.url entry.url) refl
     by true is = refl
     by false is = let none = not-of-url key entry.url is entry.functions in absurd cc
 
-url-there : (held : List Snapshot) (key : Key) → list_any (same_key key) (keys_in_order held) ≡ true → list_any (same_text key.url) (urls_in_order held) ≡ true
+pub url-there : (held : List Snapshot) (key : Key) → list_any (same_key key) (keys_in_order held) ≡ true → list_any (same_text key.url) (urls_in_order held) ≡ true
 url-there held key e =
     any-in_order text_cmp text_exact (same_text key.url) (urls held)
     ∙ any-more (same_key key) (same_text key.url) (λ (snapshot : Snapshot). flat_map (λ (entry : Entry). filter_map (key_of entry.url) entry.functions) snapshot) (λ (snapshot : Snapshot). map (λ (entry : Entry). entry.url) snapshot)
@@ -194,7 +194,7 @@ total-is : (xs : List Snapshot) (k : Key) (o : ℕ) → total xs k o ≡ sum_by 
 unfolding total
 total-is xs k o = refl
 
-merged-root : (held : List Snapshot) (key : Key) → root_count (merged_report held key) ≡ root held key
+pub merged-root : (held : List Snapshot) (key : Key) → root_count (merged_report held key) ≡ root held key
 unfolding flat
 merged-root held key = refl
 

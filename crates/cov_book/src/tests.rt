@@ -208,6 +208,43 @@ fn sums_past_the_limit(rt: HostRuntime) -> Result<(), Fail> {
 }
 
 #[test]
+fn numbers_of_snapshots(rt: HostRuntime) -> Result<(), Fail> {
+    let alloc = rt.alloc();
+    for (snapshots, (scripts, functions, ranges, roots)) in [
+        (
+            "file:///a.js, + 0..10000=1 338..1097=3 2015..2067=2 4010..4430=2,f + 8000..9000=1 8100..8150=2",
+            (1, 2, 6, 2u128),
+        ),
+        (
+            "file:///a.js,f + 0..100=1 33..97=3 40..45=2 50..55=2",
+            (1, 1, 6, 1),
+        ),
+        (
+            "file:///b.js;file:///a.js,f - 0..0=3|file:///a.js,f - 0..0=4,g - 0..2=0",
+            (2, 2, 2, 7),
+        ),
+        (
+            "file:///a.js,f - 0..0=18446744073709551615,g - 0..0=2",
+            (1, 2, 2, 18446744073709551617),
+        ),
+    ] {
+        let outcome = added(alloc, snapshots)?;
+        let numbers = outcome.book.numbers(alloc)?;
+        assert_eq!(rt;
+            (numbers.scripts, numbers.functions),
+            (scripts, functions),
+            "{snapshots}"
+        );
+        assert_eq!(rt;
+            (numbers.ranges, numbers.roots),
+            (ranges, roots),
+            "{snapshots}"
+        );
+    }
+    Ok(())
+}
+
+#[test]
 fn laws_hold() {
     laws::any_order();
     laws::in_parts();

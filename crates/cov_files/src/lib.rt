@@ -1,9 +1,13 @@
 //! Snapshots as the bytes of files: how a text is read, and the one normal file of a book.
 #![tactic(auto)]
 
+mod normal;
 mod reading;
+#[cfg(test)]
+mod tests;
 mod writing;
 
 pub use cov_model::TextFault;
+pub use normal::{NormalFault, read_normal};
 pub use reading::read_snapshot;
 pub use writing::normal_text;
