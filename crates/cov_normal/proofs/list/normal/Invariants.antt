@@ -1,0 +1,5 @@
+use Rattle.cov_normal.proofs.list.normal.Given as goal
+
+-- the ledger of a counter that was just made
+abbrev pub ghosts-listed : goal.ghosts-listed
+ghosts-listed a = record { name = a.blank.name; parts = a.blank.parts }

@@ -1,0 +1,16 @@
+//! The normal list of a function: its root, then the longest runs of counts that differ from the root's.
+//!
+//! Of a root, its count and the counts at its offsets there is exactly one such list, so that equal sums are written
+//! equally. Offsets are those of the DevTools protocol's `CoverageRange`: UTF-16 units of the script, ends exclusive.
+#![tactic(auto)]
+
+pub mod laws;
+mod list;
+mod shape;
+#[cfg(test)]
+mod tests;
+
+pub use cov_model::{Items, Range};
+pub use cov_steps::Runs;
+pub use list::{normal, runs_of};
+pub use shape::is_normal;
