@@ -1,0 +1,7 @@
+pub mod At
+pub mod Kept
+pub mod Search
+pub mod Gives
+pub mod Maps
+pub mod Answers
+pub mod Sections
