@@ -1,13 +1,16 @@
 #!/usr/bin/env python3
-"""Times the reader of `mappings` texts against Node.js splitting the same text at `;` and `,`.
+"""Times the readers of mappings and of maps against Node.js on the same text.
 
     bench/mappings.py [--bytes N] [--reader PROGRAM]
 
-PROGRAM is a proved program that reads the file that is its first word by `read_mappings` (or by a call that stands on
-it) and ends with status 0. Where none is given, only Node.js is timed. This is not part of the gate.
+It makes a mappings text of N bytes and a map around it. Node.js splits the text at `;` and `,`, and reads the map with
+JSON.parse. PROGRAM is a proved program that reads the file that is its second word, as a mappings text by
+`read_mappings` where its first word is `mappings`, as a map by `map_of` where it is `map`, and ends with status 0. Where
+none is given, only Node.js is timed. This is not part of the gate.
 """
 
 import argparse
+import json
 import shutil
 import subprocess
 import sys
@@ -54,30 +57,55 @@ def mappings(size):
     return ";".join(lines)
 
 
+PARSE = """
+const text = require('fs').readFileSync(process.argv[1], 'utf8');
+const start = process.hrtime.bigint();
+const map = JSON.parse(text);
+const taken = process.hrtime.bigint() - start;
+console.log(Number(taken) / 1e9, map.version);
+"""
+
+
+def map_text(text):
+    """A map of one thousand sources and names around a mappings text."""
+    places = range(1000)
+    return json.dumps(
+        {
+            "version": 3,
+            "sources": [f"file{k}.ts" for k in places],
+            "names": [f"name{k}" for k in places],
+            "mappings": text,
+        }
+    )
+
+
+def compare(kind, text, script, reader):
+    """Times Node.js and the reader on one text, and prints both and their ratio."""
+    with tempfile.NamedTemporaryFile("w", suffix=".txt") as file:
+        file.write(text)
+        file.flush()
+        node = None
+        if shutil.which("node"):
+            done = subprocess.run(["node", "-e", script, file.name], capture_output=True, text=True, check=True)
+            node = float(done.stdout.split()[0])
+            print(f"{kind}: node alone {node:.3f} s")
+        if reader:
+            start = time.monotonic()
+            subprocess.run([reader, kind, file.name], check=True, stdout=subprocess.DEVNULL)
+            taken = time.monotonic() - start
+            print(f"{kind}: reader, with its start and the file, {taken:.3f} s")
+            if node:
+                print(f"{kind}: ratio {taken / node:.2f}")
+
+
 def main():
-    parser = argparse.ArgumentParser(description=__doc__)
+    parser = argparse.ArgumentParser(description=__doc__, formatter_class=argparse.RawDescriptionHelpFormatter)
     parser.add_argument("--bytes", type=int, default=10_000_000)
     parser.add_argument("--reader")
     options = parser.parse_args()
-    with tempfile.NamedTemporaryFile("w", suffix=".txt") as file:
-        file.write(mappings(options.bytes))
-        file.flush()
-        split = None
-        if shutil.which("node"):
-            done = subprocess.run(["node", "-e", SPLIT, file.name], capture_output=True, text=True, check=True)
-            split = float(done.stdout.split()[0])
-            print(f"node, split alone: {split:.3f} s")
-        else:
-            print("node is not there")
-        if not options.reader:
-            print("no --reader was given: the reader was not timed")
-            return 0
-        start = time.monotonic()
-        subprocess.run([options.reader, file.name], check=True, stdout=subprocess.DEVNULL)
-        taken = time.monotonic() - start
-        print(f"reader, with its start and the file: {taken:.3f} s")
-        if split:
-            print(f"ratio: {taken / split:.2f}")
+    text = mappings(options.bytes)
+    compare("mappings", text, SPLIT, options.reader)
+    compare("map", map_text(text), PARSE, options.reader)
     return 0
 
 
