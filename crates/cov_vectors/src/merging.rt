@@ -165,3 +165,23 @@ fn functions_are_known_by_url_range_and_name(rt: HostRuntime) -> Result<(), Fail
         Ended::Done,
     )
 }
+
+#[test]
+fn a_text_with_an_inner_range_stands_between_two_others(rt: HostRuntime) -> Result<(), Fail> {
+    let alloc = rt.alloc();
+    let first = one(alloc, &[(0, 10, 1)])?;
+    let second = one(alloc, &[(0, 10, 1), (2, 4, 0)])?;
+    let third = one(alloc, &[(0, 10, 4)])?;
+    let out = one(alloc, &[(0, 10, 6), (2, 4, 5)])?;
+    merges(
+        &rt,
+        &[
+            ("cov/a.json", first.as_str()),
+            ("cov/b.json", second.as_str()),
+            ("cov/c.json", third.as_str()),
+        ],
+        out.as_str(),
+        "",
+        Ended::Done,
+    )
+}
