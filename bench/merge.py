@@ -1,16 +1,20 @@
-"""Times `merge` on a folder of made snapshots, beside Node.js reading and parsing the same files.
+"""Times `merge` on a folder of snapshots, beside Node.js reading and parsing the same files.
 
 usage: python3 bench/merge.py [SNAPSHOTS] [FUNCTIONS]
+       python3 bench/merge.py --folder FOLDER
 
-Run it by hand after `rt ci`, which leaves the program at crates/c8_command/out/c8_command. It prints both times, bytes
-per second, peak memory and the ratio, and is no part of the gate.
+The first form makes its snapshots, one script with functions of one range each. The second takes a folder that
+NODE_V8_COVERAGE wrote, and runs on the first half of its files as well, so that it shows how time grows. Run it by hand
+after `rt ci`, which leaves the program at crates/c8_command/out/c8_command. It prints times, bytes per second, peak memory
+and ratios, and is no part of the gate.
 """
 
+import argparse
 import json
+import os
 import pathlib
-import resource
+import shutil
 import subprocess
-import sys
 import tempfile
 import time
 
@@ -21,6 +25,7 @@ PARSE = (
     "for(const f of fs.readdirSync(d)){n+=JSON.parse(fs.readFileSync(d+'/'+f,'utf8')).result.length}"
     "console.log(n)"
 )
+ROUNDS = 3
 
 
 def snapshot(number: int, functions: int) -> dict:
@@ -37,26 +42,63 @@ def snapshot(number: int, functions: int) -> dict:
 
 
 def timed(words: list[str]) -> tuple[float, int]:
-    """Seconds, and the peak memory of all children so far in KiB."""
-    start = time.monotonic()
-    subprocess.run(words, check=True, stdout=subprocess.DEVNULL)
-    return time.monotonic() - start, resource.getrusage(resource.RUSAGE_CHILDREN).ru_maxrss
+    """The least seconds of some rounds, and the peak memory of one in KiB."""
+    seconds, memory = [], 0
+    for _ in range(ROUNDS):
+        start = time.monotonic()
+        child = subprocess.Popen(words, stdout=subprocess.DEVNULL)
+        _, status, used = os.wait4(child.pid, 0)
+        seconds.append(time.monotonic() - start)
+        memory = max(memory, used.ru_maxrss)
+        if status != 0:
+            raise SystemExit(f"{words[0]} ended with {os.waitstatus_to_exitcode(status)}")
+    return min(seconds), memory
+
+
+def compare(folder: pathlib.Path) -> float:
+    """Prints both times on a folder, and gives ours."""
+    sizes = [file.stat().st_size for file in folder.iterdir()]
+    size = sum(sizes)
+    ours, memory = timed([str(PROGRAM), "merge", str(folder)])
+    theirs, _ = timed(["node", "-e", PARSE, str(folder)])
+    print(f"{len(sizes)} files, {size} bytes, the largest of {max(sizes)}")
+    print(f"merge    {ours:8.3f} s  {size / ours / 1e6:8.2f} MB/s  peak {memory / 1024:.1f} MiB")
+    print(f"         {memory * 1024 / max(sizes):8.2f} bytes of peak memory for each byte of the largest text")
+    print(f"node     {theirs:8.3f} s  {size / theirs / 1e6:8.2f} MB/s  (start, read and JSON.parse)")
+    print(f"ratio    {ours / theirs:8.2f}")
+    return ours
+
+
+def on_made(snapshots: int, functions: int) -> None:
+    with tempfile.TemporaryDirectory() as name:
+        folder = pathlib.Path(name)
+        for number in range(snapshots):
+            text = json.dumps(snapshot(number, functions), separators=(",", ":"))
+            (folder / f"{number:04}.json").write_text(text)
+        compare(folder)
+
+
+def on_folder(folder: pathlib.Path) -> None:
+    files = sorted(file for file in folder.iterdir() if file.name.endswith(".json"))
+    with tempfile.TemporaryDirectory() as name:
+        half = pathlib.Path(name)
+        for file in files[: len(files) // 2]:
+            shutil.copy(file, half / file.name)
+        first = compare(half)
+    whole = compare(folder)
+    print(f"growth   {whole / first:8.2f}  (all files against the first half)")
 
 
 def main() -> None:
-    snapshots, functions = (int(word) for word in (sys.argv[1:] + ["3", "100"][len(sys.argv) - 1 :])[:2])
-    with tempfile.TemporaryDirectory() as folder:
-        size = 0
-        for number in range(snapshots):
-            text = json.dumps(snapshot(number, functions), separators=(",", ":"))
-            size += len(text)
-            (pathlib.Path(folder) / f"{number:04}.json").write_text(text)
-        ours, memory = timed([str(PROGRAM), "merge", folder])
-        theirs, _ = timed(["node", "-e", PARSE, folder])
-    print(f"{snapshots} snapshots of {functions} functions, {size} bytes")
-    print(f"merge    {ours:8.3f} s  {size / ours / 1e6:8.2f} MB/s  peak {memory / 1024:.1f} MiB")
-    print(f"node     {theirs:8.3f} s  {size / theirs / 1e6:8.2f} MB/s  (read and JSON.parse)")
-    print(f"ratio    {ours / theirs:8.2f}")
+    words = argparse.ArgumentParser(description="Times merge beside Node.js.")
+    words.add_argument("--folder", type=pathlib.Path)
+    words.add_argument("snapshots", type=int, nargs="?", default=3)
+    words.add_argument("functions", type=int, nargs="?", default=100)
+    given = words.parse_args()
+    if given.folder:
+        on_folder(given.folder)
+    else:
+        on_made(given.snapshots, given.functions)
 
 
 if __name__ == "__main__":
