@@ -109,18 +109,18 @@ held-agree one other e =
 
 -- ---- the same with what is added
 
-flag-append : (xs ys : List Snapshot) (key : Key) → flag (xs ++ ys) key ≡ (flag xs key || flag ys key)
+pub flag-append : (xs ys : List Snapshot) (key : Key) → flag (xs ++ ys) key ≡ (flag xs key || flag ys key)
 unfolding flag reports
 flag-append xs ys key =
     ap (list_any (λ (f : FunctionReport). f.block)) (flat_map-append (λ (snapshot : Snapshot). flat_map (λ (entry : Entry). filter (is_of key entry.url) entry.functions) snapshot) xs ys)
     ∙ list_any-append (λ (f : FunctionReport). f.block) (reports xs key) (reports ys key)
 
-urls-append : (xs ys : List Snapshot) → urls_in_order (xs ++ ys) ≡ inserted text_cmp (urls_in_order xs) (urls ys)
+pub urls-append : (xs ys : List Snapshot) → urls_in_order (xs ++ ys) ≡ inserted text_cmp (urls_in_order xs) (urls ys)
 urls-append xs ys =
     ap (inserted text_cmp []) (flat_map-append (λ (snapshot : Snapshot). map (λ (entry : Entry). entry.url) snapshot) xs ys)
     ∙ inserted-append text_cmp (urls xs) (urls ys) []
 
-keys-append : (xs ys : List Snapshot) → keys_in_order (xs ++ ys) ≡ inserted file_order (keys_in_order xs) (keys ys)
+pub keys-append : (xs ys : List Snapshot) → keys_in_order (xs ++ ys) ≡ inserted file_order (keys_in_order xs) (keys ys)
 keys-append xs ys =
     ap (inserted file_order []) (flat_map-append (λ (snapshot : Snapshot). flat_map (λ (entry : Entry). filter_map (key_of entry.url) entry.functions) snapshot) xs ys)
     ∙ inserted-append file_order (keys xs) (keys ys) []

@@ -1,5 +1,5 @@
 -- The numbers of the scripts of a list of snapshots are those of the list.
-use Rattle.std.proofs.Common.{◌≡◌, ℕ, ◌+◌, Bool, true, false, List, [], ◌∷◌, ◌++◌, map, length, refl, sym, ap, ◌∙◌, arith}
+use Rattle.std.proofs.Common.{◌≡◌, ℕ, ◌+◌, true, false, List, [], ◌∷◌, map, length, refl, ap, ◌∙◌, arith}
 use Rattle.std.specs.Prelude.{◌^◌, ◌-◌, cond, min, filter, flat_map, sum_by, ◌||◌}
 use Rattle.std.specs.List.{AllByRecursion, list_any}
 use Rattle.std.specs.List.Sorted.{IsStrictlySortedBy}
@@ -13,7 +13,6 @@ use Rattle.cov_model.specs.Sums.{limit, root, root_count, urls, urls_in_order, k
 use Rattle.cov_model.specs.File.{merged_report, merged_entry, scripts}
 use Rattle.cov_book.specs.Counts.{capped}
 use Rattle.cov_book.specs.Numbers.{range_count, kept, numbers_of, with_report, with_reports, one_more, with_scripts, nothing}
-use Rattle.cov_book.specs.declared.numbers.Numbers.{Numbers}
 use Rattle.cov_book.proofs.Ordered.{text_total, in_order-sorted, is-same}
 use Rattle.cov_book.proofs.Shards.{once, text-is, is-text, url-there, or-right, merged-root}
 
@@ -147,7 +146,7 @@ sum-urls g us sorted (k ∷ ks) has =
     let all = sum_by-cons g k ks in
     omega arith
 
-each-there : (P : Key → Type 0) (ks : List Key) → ((k : Key) → list_any (same_key k) ks ≡ true → P k) → AllByRecursion P ks
+pub each-there : (P : Key → Type 0) (ks : List Key) → ((k : Key) → list_any (same_key k) ks ≡ true → P k) → AllByRecursion P ks
 each-there P [] h = tt
 each-there P (k ∷ ks) h =
     (h k (ap (λ b. b || list_any (same_key k) ks) (is-same k k refl)), each-there P ks (λ j e. h j (or-right (same_key j k) (list_any (same_key j) ks) e)))

@@ -20,7 +20,7 @@ use Rattle.cov_text.specs.Listing.{inserted, counted, offsets}
 use Rattle.cov_model.specs.Nesting.{or_else}
 use Rattle.cov_model.specs.Sums.{fits, sum_at, sum_fault, passes_limit, limit, points, keys, keys_in_order, file_order, key_of, is_of, reports, root, total}
 use Rattle.cov_model.proofs.Grows.{fits-each, sum_at-append}
-use Rattle.cov_book.specs.Counts.{capped, weight, reports_in, passes, past_among, first_point, first_sum, fault_with, with_script, with_scripts}
+use Rattle.cov_book.specs.Counts.{capped, weight, reports_in, passes, first_point, first_sum, fault_with, with_script, with_scripts}
 
 inserted-append : (xs ys : List Key) (known : List Key) → inserted file_order known (xs ++ ys) ≡ inserted file_order (inserted file_order known xs) ys
 inserted-append [] ys known = refl
@@ -46,35 +46,19 @@ offsets-more o end l =
     let next : suc o ≡ o + 1 = omega arith in
     ap (counted o) n ∙ ap (λ k. o ∷ counted k (end - (o + 1))) next
 
-pub past_more : (before new : List FunctionReport) (o end : ℕ) → o < end → false ≡ passes before new (Offset o)
-    → past_among before new (map Offset (offsets o end)) ≡ past_among before new (map Offset (offsets (o + 1) end))
-past_more before new o end l under =
-    ap (λ os. past_among before new (map Offset os)) (offsets-more o end l)
-    ∙ ap (λ b. cond b (Some (Offset o)) (past_among before new (map Offset (offsets (o + 1) end)))) (sym under)
-
-or-assoc : {A : Type 0} (a b c : Option A) → or_else a (or_else b c) ≡ or_else (or_else a b) c
-or-assoc None b c = refl
-or-assoc (Some x) b c = refl
-
-or-none : {A : Type 0} (a : Option A) → or_else a None ≡ a
-or-none None = refl
-or-none (Some x) = refl
-
-pub first_sum-push : (held : List Snapshot) (snapshot : Snapshot) (ks : List Key) (key : Key)
-    → first_sum held snapshot (ks ++ key ∷ []) ≡ or_else (first_sum held snapshot ks) (option_map (fault_with held snapshot key) (first_point held snapshot key (points key)))
-first_sum-push held snapshot [] key = or-none (option_map (fault_with held snapshot key) (first_point held snapshot key (points key)))
-first_sum-push held snapshot (k ∷ ks) key =
-    ap (or_else (option_map (fault_with held snapshot k) (first_point held snapshot k (points k)))) (first_sum-push held snapshot ks key)
-    ∙ or-assoc (option_map (fault_with held snapshot k) (first_point held snapshot k (points k))) (first_sum held snapshot ks) _
+-- a point that fails a test is passed over
+pub find-more : (p : At → Bool) (o end : ℕ) → o < end → false ≡ p (Offset o) → find p (map Offset (offsets o end)) ≡ find p (map Offset (offsets (o + 1) end))
+find-more p o end l under =
+    ap (λ os. find p (map Offset os)) (offsets-more o end l) ∙ ap (λ b. cond b (Some (Offset o)) (find p (map Offset (offsets (o + 1) end)))) (sym under)
 
 -- ---- the sums as the definitions have them
 
-sum-flat : {A B : Type 0} (f : B → ℕ) (g : A → List B) (xs : List A) → sum_by f (flat_map g xs) ≡ sum_by (λ x. sum_by f (g x)) xs
+pub sum-flat : {A B : Type 0} (f : B → ℕ) (g : A → List B) (xs : List A) → sum_by f (flat_map g xs) ≡ sum_by (λ x. sum_by f (g x)) xs
 sum-flat f g [] = refl
 sum-flat f g (x ∷ xs) =
     sum_by-append f (g x) (flat_map g xs) ∙ ap (λ n. sum_by f (g x) + n) (sum-flat f g xs) ∙ sym (sum_by-cons (λ y. sum_by f (g y)) x xs)
 
-sum-each : {A : Type 0} (f g : A → ℕ) → ((x : A) → f x ≡ g x) → (xs : List A) → sum_by f xs ≡ sum_by g xs
+pub sum-each : {A : Type 0} (f g : A → ℕ) → ((x : A) → f x ≡ g x) → (xs : List A) → sum_by f xs ≡ sum_by g xs
 sum-each f g h [] = refl
 sum-each f g h (x ∷ xs) = sum_by-cons f x xs ∙ ap (λ n. n + sum_by f xs) (h x) ∙ ap (λ n. g x + n) (sum-each f g h xs) ∙ sym (sum_by-cons g x xs)
 
@@ -82,7 +66,7 @@ sum-cond : (b : Bool) (w : FunctionReport → ℕ) (f : FunctionReport) (fs : Li
 sum-cond true w f fs = sum_by-cons w f fs
 sum-cond false w f fs = omega arith
 
-one-script : (w : FunctionReport → ℕ) (p : FunctionReport → Bool) (fs : List FunctionReport) → sum_by w (filter p fs) ≡ sum_by (λ f. cond (p f) (w f) 0) fs
+pub one-script : (w : FunctionReport → ℕ) (p : FunctionReport → Bool) (fs : List FunctionReport) → sum_by w (filter p fs) ≡ sum_by (λ f. cond (p f) (w f) 0) fs
 one-script w p [] = refl
 one-script w p (f ∷ fs) =
     sum-cond (p f) w f (filter p fs) ∙ ap (λ n. cond (p f) (w f) 0 + n) (one-script w p fs) ∙ sym (sum_by-cons (λ g. cond (p g) (w g) 0) f fs)

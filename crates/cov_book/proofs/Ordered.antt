@@ -62,7 +62,7 @@ above : {A : Type 0} (cmp : A → A → Ordering) (total : IsTotalOrder cmp) (x 
 above cmp total x y [] lt h = tt
 above cmp total x y (z ∷ zs) lt h = (total.trans x y z lt h.0, above cmp total x y zs lt h.1)
 
-sorted-insert : {A : Type 0} (cmp : A → A → Ordering) (total : IsTotalOrder cmp) (xs : List A) (x : A) → IsStrictlySortedBy cmp xs → IsStrictlySortedBy cmp (insert_key cmp xs x)
+pub sorted-insert : {A : Type 0} (cmp : A → A → Ordering) (total : IsTotalOrder cmp) (xs : List A) (x : A) → IsStrictlySortedBy cmp xs → IsStrictlySortedBy cmp (insert_key cmp xs x)
 unfolding IsStrictlySortedBy
 sorted-insert cmp total [] x h = (tt, tt)
 sorted-insert cmp total (y ∷ ys) x h = by (cmp x y) refl (sorted-insert cmp total ys x h.1)
@@ -72,7 +72,7 @@ sorted-insert cmp total (y ∷ ys) x h = by (cmp x y) refl (sorted-insert cmp to
     by Equal e rest = h
     by Greater e rest = (All-insert (λ z. cmp y z ≡ Less) cmp ys x h.0 (total.antisymm y x ∙ ap ordering_reverse e), rest)
 
-sorted-inserted : {A : Type 0} (cmp : A → A → Ordering) (total : IsTotalOrder cmp) (xs known : List A) → IsStrictlySortedBy cmp known → IsStrictlySortedBy cmp (inserted cmp known xs)
+pub sorted-inserted : {A : Type 0} (cmp : A → A → Ordering) (total : IsTotalOrder cmp) (xs known : List A) → IsStrictlySortedBy cmp known → IsStrictlySortedBy cmp (inserted cmp known xs)
 sorted-inserted cmp total [] known h = h
 sorted-inserted cmp total (x ∷ xs) known h = sorted-inserted cmp total xs (insert_key cmp known x) (sorted-insert cmp total known x h)
 
@@ -106,11 +106,11 @@ any-step cmp exact p x k xs Less e rest = refl
 any-step cmp exact p x k xs Equal e rest = again-or (p x) (list_any p xs) ∙ ap (λ y. p y || (p x || list_any p xs)) (sym (exact k x e))
 any-step cmp exact p x k xs Greater e rest = ap (λ b. p x || b) rest ∙ swap-or (p x) (p k) (list_any p xs)
 
-any-insert : {A : Type 0} (cmp : A → A → Ordering) → CmpEqualImpliesEq cmp → (p : A → Bool) (ks : List A) (k : A) → list_any p (insert_key cmp ks k) ≡ (p k || list_any p ks)
+pub any-insert : {A : Type 0} (cmp : A → A → Ordering) → CmpEqualImpliesEq cmp → (p : A → Bool) (ks : List A) (k : A) → list_any p (insert_key cmp ks k) ≡ (p k || list_any p ks)
 any-insert cmp exact p [] k = refl
 any-insert cmp exact p (x ∷ xs) k = any-step cmp exact p x k xs (cmp k x) refl (any-insert cmp exact p xs k)
 
-any-inserted : {A : Type 0} (cmp : A → A → Ordering) → CmpEqualImpliesEq cmp → (p : A → Bool) (xs ks : List A) → list_any p (inserted cmp ks xs) ≡ (list_any p xs || list_any p ks)
+pub any-inserted : {A : Type 0} (cmp : A → A → Ordering) → CmpEqualImpliesEq cmp → (p : A → Bool) (xs ks : List A) → list_any p (inserted cmp ks xs) ≡ (list_any p xs || list_any p ks)
 any-inserted cmp exact p [] ks = refl
 any-inserted cmp exact p (x ∷ xs) ks =
     any-inserted cmp exact p xs (insert_key cmp ks x)
@@ -121,11 +121,11 @@ any-inserted cmp exact p (x ∷ xs) ks =
 pub any-in_order : {A : Type 0} (cmp : A → A → Ordering) → CmpEqualImpliesEq cmp → (p : A → Bool) (xs : List A) → list_any p (in_order cmp xs) ≡ list_any p xs
 any-in_order cmp exact p xs = any-inserted cmp exact p xs [] ∙ or-false (list_any p xs)
 
-any-each : {A : Type 0} (p q : A → Bool) → ((x : A) → p x ≡ q x) → (xs : List A) → list_any p xs ≡ list_any q xs
+pub any-each : {A : Type 0} (p q : A → Bool) → ((x : A) → p x ≡ q x) → (xs : List A) → list_any p xs ≡ list_any q xs
 any-each p q h [] = refl
 any-each p q h (x ∷ xs) = ap (λ b. b || list_any p xs) (h x) ∙ ap (λ b. q x || b) (any-each p q h xs)
 
-at-equal : (o : Ordering) → is_eq o ≡ true → o ≡ Equal
+pub at-equal : (o : Ordering) → is_eq o ≡ true → o ≡ Equal
 at-equal Less e = absurd cc
 at-equal Equal e = refl
 at-equal Greater e = absurd cc

@@ -27,11 +27,8 @@ abbrev pub passes : List FunctionReport → List FunctionReport → At → Bool
 passes before new at = nat_lt limit (sum_by (weight at) before + sum_by (weight at) new)
 
 -- the first of the points at which they do
-abbrev pub past_among : List FunctionReport → List FunctionReport → List At → Option At
-past_among before new points = find (passes before new) points
-
 abbrev pub first_point : List Snapshot → Snapshot → Key → List At → Option At
-first_point held snapshot key points = past_among (reports held key) (reports_in key snapshot) points
+first_point held snapshot key points = find (passes (reports held key) (reports_in key snapshot)) points
 
 -- the keys with those of scripts
 abbrev pub with_script : List Key → List ℕ → List FunctionReport → List Key

@@ -8,21 +8,6 @@ use cov_model::{At, Entry, FunctionReport, Key, Snapshot, Text};
 use cov_ranges::count_at;
 use std::alloc::{AllocError, Global};
 
-/// The reports of a key.
-pub fn reports_of<'a>(
-    alloc: Global,
-    held: &'a [Snapshot],
-    key: &Key,
-) -> Result<Vec<&'a FunctionReport>, AllocError>
-    ensures { IfOk result (λ found. map (λ r. r.now) found.items ≡ reports held.now key.now) }
-{
-    let mut found = Vec::new(alloc);
-    for snapshot in held {
-        add_reports(&mut found, snapshot, key)?;
-    }
-    Ok(found)
-}
-
 /// Puts the reports of a key in one snapshot at the end.
 pub fn add_reports<'a>(
     found: &mut Vec<&'a FunctionReport>,

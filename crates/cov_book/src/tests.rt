@@ -3,6 +3,9 @@
 ghost use Rattle.std.specs.Prelude.{◌≡◌, ◌<◌, None, IfOk};
 ghost use Rattle.cov_model.specs.Nesting.{range_fault, AreNested, AreReportsNested};
 
+mod plain;
+mod told;
+
 use super::*;
 use cov_model::{Entry, FunctionReport, Items, Range, Snapshot, Text};
 use cov_ranges::check_ranges;
@@ -208,6 +211,21 @@ fn sums_past_the_limit(rt: HostRuntime) -> Result<(), Fail> {
 }
 
 #[test]
+fn sums_past_the_limit_far_away(rt: HostRuntime) -> Result<(), Fail> {
+    let alloc = rt.alloc();
+    let outcome = added(
+        alloc,
+        "a,f + 0..4294967295=0 4294967294..4294967295=18446744073709551615|a,f + 0..4294967295=0 4294967000..4294967295=1",
+    )?;
+    let faults = outcome.faults.as_slice();
+    assert_eq!(rt; faults.len(), 1);
+    assert_eq!(rt; faults[0].1.at, At::Offset(4294967294));
+    assert_eq!(rt; faults[0].1.held, 18446744073709551615);
+    assert_eq!(rt; faults[0].1.added, 1);
+    Ok(())
+}
+
+#[test]
 fn numbers_of_snapshots(rt: HostRuntime) -> Result<(), Fail> {
     let alloc = rt.alloc();
     for (snapshots, (scripts, functions, ranges, roots)) in [
@@ -249,4 +267,6 @@ fn laws_hold() {
     laws::any_order();
     laws::in_parts();
     laws::one_script();
+    laws::growing();
+    laws::runs_looked_at();
 }

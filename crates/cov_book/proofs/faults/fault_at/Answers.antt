@@ -1,29 +1,47 @@
-use Rattle.std.proofs.Common.{sym, ap, ◌∙◌, subst, map, ◌++◌, Bor}
+use Rattle.std.proofs.Common.{◌≡◌, ◌++◌, map, sym, ap, ◌∙◌, subst, arith, Bor}
+use Rattle.std.specs.Prelude.{option_copied, sum_by}
+use Rattle.std.specs.Map.{lookup}
+use Rattle.std.specs.BTreeMap.{is_at}
 use Rattle.cov_model.specs.declared.report.FunctionReport.{FunctionReport}
 use Rattle.cov_model.specs.Nesting.{AreReportsNested}
-use Rattle.cov_book.specs.Counts.{reports_in}
-use Rattle.cov_book.proofs.Nested.{reports-nested, reports_in-nested}
+use Rattle.cov_model.specs.Sums.{file_order}
+use Rattle.cov_book.specs.Counts.{capped, weight, reports_in}
+use Rattle.cov_book.proofs.Nested.{reports_in-nested}
+use Rattle.cov_book.proofs.Passing.{fault-none, fault-some}
 use Rattle.cov_book.proofs.faults.fault_at.Goals as goal
 
 abbrev now : Bor FunctionReport → FunctionReport
 now r = r.now
 
-pub first_past-requires-clause-before : goal.first_past-requires-clause-before
-first_past-requires-clause-before c =
-    subst AreReportsNested (sym (ap (map now) c.deref.ensures.value ∙ c.in_ok-before.ensures)) (reports-nested c.args.held.now c.args.key.now c.requires.before)
-
-pub first_past-requires-clause-new : goal.first_past-requires-clause-new
-first_past-requires-clause-new c =
+pub first_past-requires : goal.first_past-requires
+first_past-requires g c =
     let more = reports_in c.args.key.now c.args.snapshot.now in
-    subst AreReportsNested (sym (ap (map now) c.deref-2.ensures.value ∙ c.in_ok-add_reports.ensures ∙ ap (λ xs. map now xs ++ more) c.new-new.ensures.items))
-    (reports_in-nested c.args.snapshot.now c.args.key.now c.requires.new)
-
-pub sum_of-requires : goal.sum_of-requires
-sum_of-requires c =
-    subst AreReportsNested (sym (ap (map now) c.deref-3.ensures.value ∙ c.in_ok-before.ensures)) (reports-nested c.args.held.now c.args.key.now c.requires.before)
+    subst AreReportsNested (sym (ap (map now) c.deref.ensures.value ∙ c.in_ok-add_reports.ensures ∙ ap (λ xs. map now xs ++ more) c.new-new.ensures.items))
+    (reports_in-nested c.args.snapshot.now c.args.key.now c.requires)
 
 pub sum_of-added-requires : goal.sum_of-added-requires
-sum_of-added-requires c =
+sum_of-added-requires g c =
     let more = reports_in c.args.key.now c.args.snapshot.now in
-    subst AreReportsNested (sym (ap (map now) c.deref-4.ensures.value ∙ c.in_ok-add_reports.ensures ∙ ap (λ xs. map now xs ++ more) c.new-new.ensures.items))
-    (reports_in-nested c.args.snapshot.now c.args.key.now c.requires.new)
+    subst AreReportsNested (sym (ap (map now) c.deref-2.ensures.value ∙ c.in_ok-add_reports.ensures ∙ ap (λ xs. map now xs ++ more) c.new-new.ensures.items))
+    (reports_in-nested c.args.snapshot.now c.args.key.now c.requires)
+
+pub returns-in_default-clause-fault : goal.returns-in_default-clause-fault
+returns-in_default-clause-fault g c = λ held is.
+    let key = c.args.key.now in
+    let s = c.args.snapshot.now in
+    let new = ap (map now) c.deref.ensures.value ∙ c.in_ok-add_reports.ensures ∙ ap (λ xs. map now xs ++ reports_in key s) c.new-new.ensures.items in
+    let before = c.get-before.ensures.value ∙ ap (lookup (is_at (file_order key))) is in
+    fault-none held s key (option_copied c.get-before.result) (map now c.deref.result.now) before new c.in_default.ensures.point
+
+pub returns-clause-fault : goal.returns-clause-fault
+returns-clause-fault g c = λ held is.
+    let key = c.args.key.now in
+    let s = c.args.snapshot.now in
+    let new = ap (map now) c.deref.ensures.value ∙ c.in_ok-add_reports.ensures ∙ ap (λ xs. map now xs ++ reports_in key s) c.new-new.ensures.items in
+    let same = ap (map now) (c.deref-2.ensures.value ∙ sym c.deref.ensures.value) in
+    let before = c.get-before.ensures.value ∙ ap (lookup (is_at (file_order key))) is in
+    let parts = c.in_ok-clone.ensures.cases in
+    let copy : c.in_ok-clone.field-0 ≡ key = λ i. record { url = parts.0 i; start = parts.1.0 i; end = parts.1.1.0 i; name = parts.1.1.1 i } in
+    fault-some held s key (option_copied c.get-before.result) (map now c.deref.result.now) c.in-Some.at c.in_ok-clone.field-0 c.held_at-held.result c.sum_of-added.result
+    before new c.in-Some.ensures.point copy c.held_at-held.ensures.sum (omega arith)
+    (c.sum_of-added.ensures ∙ ap (λ fs. capped (sum_by (weight c.in-Some.at) fs)) same)

@@ -1,8 +1,9 @@
-use Rattle.std.proofs.Common.{◌≡◌, map}
-use Rattle.std.specs.Prelude.{filter}
-use Rattle.cov_text.specs.Listing.{same_text}
-use Rattle.cov_model.specs.File.{merged_report}
+use Rattle.std.proofs.Common.{◌≡◌, ◌++◌, map, drop}
+use Rattle.std.specs.Map.Iter.{deref_pair}
+use Rattle.cov_book.specs.Entries.{told_report}
+use Rattle.cov_book.specs.Told.{front}
 use Rattle.cov_book.proofs.merged.functions_of.Given as goal
 
-abbrev pub invariant-loop-key : goal.invariant-loop-key
-invariant-loop-key l = l.functions ≡ map (merged_report l.held) (filter (λ key. same_text key.url l.url) (map (λ key. key.now) l.yielded))
+-- what is told, with the front of what is left, is the front of all
+abbrev pub invariant-loop-entry : goal.invariant-loop-entry
+invariant-loop-entry l = l.told ++ map told_report (front l.url (map deref_pair (drop l.entry-index l.rest))) ≡ map told_report (front l.url (map deref_pair l.rest))

@@ -1,0 +1,13 @@
+use Rattle.std.proofs.Common.{◌≡◌, ℕ, List, false, drop}
+use Rattle.std.specs.Prelude.{cond}
+use Rattle.std.specs.BTreeSet.{contains}
+use Rattle.cov_text.specs.Listing.{text_cmp}
+use Rattle.cov_book.specs.Entries.{is_among}
+use Rattle.std.specs.BTreeSet.{IsOrdered}
+use Rattle.cov_book.proofs.placing.remove_urls.Given as goal
+
+abbrev pub invariant-loop-url : goal.invariant-loop-url
+invariant-loop-url l = record {
+  ordered : IsOrdered text_cmp l.urls;
+  gone : (url : List ℕ) → cond (is_among text_cmp (drop l.url-index l.fresh) url) false (contains text_cmp l.urls url) ≡ cond (is_among text_cmp l.fresh url) false (contains text_cmp l.initial.urls url);
+}
