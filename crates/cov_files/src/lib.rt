@@ -9,5 +9,5 @@ mod writing;
 
 pub use cov_model::TextFault;
 pub use normal::{NormalFault, read_normal};
-pub use reading::read_snapshot;
+pub use reading::{maps_of, read_snapshot, read_text};
 pub use writing::normal_text;

@@ -1,5 +1,6 @@
 //! Which bytes are a normal file, on examples.
 use super::*;
+use source_maps::{EntryBody, MapEntry};
 use std::alloc::Global;
 use std::process::Abort;
 use std::test::Fail;
@@ -99,5 +100,130 @@ fn one_way_of_writing_is_normal(rt: HostRuntime) -> Result<(), Fail> {
     let cut = text_of(alloc, "0..10=1", "]}]")?;
     let fault = read_normal(alloc, cut.as_bytes()).err();
     assert_eq!(rt; fault, Some(NormalFault::NotNormal));
+    Ok(())
+}
+
+/// Each entry's url and its lengths, or `bad`, with a semicolon behind it.
+fn entries_text(alloc: Global, entries: &[MapEntry]) -> Result<String, Fail> {
+    let mut text = String::new(alloc);
+    for entry in entries {
+        text.push_str(entry.url.as_text())?;
+        text.push('=')?;
+        match &entry.body {
+            EntryBody::Given { lengths, .. } => {
+                for length in lengths.as_slice() {
+                    let item = format!(in alloc; "{length},")?;
+                    text.push_str(item.as_str())?;
+                }
+            }
+            EntryBody::Bad => text.push_str("bad")?,
+        }
+        text.push(';')?;
+    }
+    Ok(text)
+}
+
+/// Checks what a text says of maps.
+fn check_maps(rt: &impl Abort, alloc: Global, text: &str, wanted: &str) -> Result<(), Fail> {
+    let Ok(entries) = maps_of(alloc, text.as_bytes()) else {
+        return Err(Fail::from("refused"));
+    };
+    let said = entries_text(alloc, entries.as_slice())?;
+    assert_eq!(rt; said.as_str(), wanted, "{text}");
+    Ok(())
+}
+
+#[test]
+fn texts_without_a_cache_have_no_entries(rt: HostRuntime) -> Result<(), Fail> {
+    let alloc = rt.alloc();
+    for text in [
+        "[]",
+        "3",
+        "{}",
+        "{\"result\":[]}",
+        "{\"source-map-cache\":null}",
+        "{\"source-map-cache\":[{}]}",
+        "{\"source-map-cache\":\"u\"}",
+        "{\"source-map-cache\":{}}",
+    ] {
+        check_maps(&rt, alloc, text, "")?;
+    }
+    Ok(())
+}
+
+#[test]
+fn members_of_a_cache_are_these_entries(rt: HostRuntime) -> Result<(), Fail> {
+    let alloc = rt.alloc();
+    for (cache, wanted) in [
+        ("\"u\":{\"data\":{},\"lineLengths\":[1,2]}", "u=1,2,;"),
+        ("\"u\":{\"data\":3,\"lineLengths\":[],\"url\":7}", "u=;"),
+        (
+            "\"u\":{\"data\":{},\"lineLengths\":[4294967295]}",
+            "u=4294967295,;",
+        ),
+        ("\"u\":{\"lineLengths\":[1]}", ""),
+        ("\"u\":{\"data\":null,\"lineLengths\":[1]}", ""),
+        ("\"u\":{\"data\":null,\"lineLengths\":7}", ""),
+        ("\"u\":{\"data\":{}}", ""),
+        ("\"u\":{\"data\":{},\"lineLengths\":null}", ""),
+        ("\"u\":{}", ""),
+        ("\"u\":null", "u=bad;"),
+        ("\"u\":[]", "u=bad;"),
+        ("\"u\":\"data\"", "u=bad;"),
+        ("\"u\":{\"data\":{},\"lineLengths\":[1,\"2\"]}", "u=bad;"),
+        ("\"u\":{\"data\":{},\"lineLengths\":[4294967296]}", "u=bad;"),
+        ("\"u\":{\"data\":{},\"lineLengths\":[-1]}", "u=bad;"),
+        ("\"u\":{\"data\":{},\"lineLengths\":[1.5]}", "u=bad;"),
+        ("\"u\":{\"data\":{},\"lineLengths\":[null]}", "u=bad;"),
+        ("\"u\":{\"data\":{},\"lineLengths\":3}", "u=bad;"),
+        ("\"u\":{\"data\":{},\"lineLengths\":{}}", "u=bad;"),
+        (
+            "\"b\":3,\"a\":{\"data\":{},\"lineLengths\":[5]},\"Z\":{},\"B\":4",
+            "B=bad;a=5,;b=bad;",
+        ),
+    ] {
+        let text = format!(in alloc; "{{\"source-map-cache\":{{{cache}}}}}")?;
+        check_maps(&rt, alloc, text.as_str(), wanted)?;
+    }
+    Ok(())
+}
+
+#[test]
+fn one_reading_gives_both(rt: HostRuntime) -> Result<(), Fail> {
+    let alloc = rt.alloc();
+    let text =
+        "{\"result\":[],\"source-map-cache\":{\"u\":{\"data\":{\"version\":3},\"lineLengths\":[1]}}}";
+    let Ok((snapshot, entries)) = read_text(alloc, text.as_bytes()) else {
+        return Err(Fail::from("refused"));
+    };
+    assert!(rt; snapshot.scripts().is_empty());
+    let said = entries_text(alloc, entries.as_slice())?;
+    assert_eq!(rt; said.as_str(), "u=1,;");
+    match entries.as_slice() {
+        [entry] => match &entry.body {
+            EntryBody::Given { map, .. } => assert!(rt; map.get("version").is_some()),
+            EntryBody::Bad => return Err(Fail::from("bad")),
+        },
+        _ => return Err(Fail::from("not one")),
+    }
+    Ok(())
+}
+
+#[test]
+fn readings_have_these_faults(rt: HostRuntime) -> Result<(), Fail> {
+    let alloc = rt.alloc();
+    for text in ["", "{", "{\"result\":[]} x"] {
+        assert!(rt;
+            matches!(maps_of(alloc, text.as_bytes()), Err(TextFault::Syntax)),
+            "{text}"
+        );
+        assert!(rt;
+            matches!(read_text(alloc, text.as_bytes()), Err(TextFault::Syntax)),
+            "{text}"
+        );
+    }
+    let text = "{\"source-map-cache\":{}}";
+    assert!(rt; maps_of(alloc, text.as_bytes()).is_ok());
+    assert!(rt; matches!(read_text(alloc, text.as_bytes()), Err(TextFault::Shape(_))));
     Ok(())
 }

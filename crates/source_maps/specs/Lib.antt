@@ -5,3 +5,4 @@ pub mod Gives
 pub mod Maps
 pub mod Answers
 pub mod Sections
+pub mod Entries

@@ -1,6 +1,7 @@
 //! Source maps of revision 3: which original spot a spot of a generated text comes from.
 #![tactic(auto)]
 
+mod entries;
 mod fault;
 mod lookup;
 mod map;
@@ -15,6 +16,7 @@ mod start;
 mod tests;
 mod version;
 
+pub use entries::{EntryBody, MapEntry, entries_of};
 pub use fault::{MapFault, MapField};
 pub use map::{MapParts, MapSegment, SourceMap};
 pub use reader::map_of;

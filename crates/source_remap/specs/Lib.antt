@@ -1,0 +1,3 @@
+pub mod Paths
+pub mod Origins
+pub mod Columns
