@@ -1,0 +1,10 @@
+pub mod Computed
+pub mod Walked
+pub mod Sorted
+pub mod Inserted
+pub mod KeyOrder
+pub mod Parsed
+pub mod Files
+pub mod Written
+pub mod Shapes
+pub mod ReadBack
