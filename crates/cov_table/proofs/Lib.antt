@@ -1,0 +1,4 @@
+pub mod Computed
+pub mod Characters
+pub mod Running
+pub mod Sums

@@ -1,0 +1,4 @@
+pub mod Shares
+pub mod Table
+pub mod Adding
+pub mod Examples

@@ -1,0 +1,4 @@
+pub mod Computed
+pub mod Greatest
+pub mod Lines
+pub mod Shares

@@ -1,0 +1,6 @@
+use Rattle.std.proofs.Common.{◌≡◌, drop, ◌++◌, map}
+use Rattle.lcov_text.specs.Lcov.{function_count, ended_lines}
+use Rattle.lcov_text.proofs.trace.put_function_counts.Given as goal
+
+abbrev pub invariant-loop-function : goal.invariant-loop-function
+invariant-loop-function l = l.text.items ++ ended_lines (map function_count (drop l.function-index l.functions)) ≡ l.initial.text.items ++ ended_lines (map function_count l.functions)

@@ -1,0 +1,4 @@
+pub mod Counts
+pub mod Counting
+pub mod Lcov
+pub mod Examples
