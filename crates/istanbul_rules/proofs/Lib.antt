@@ -1,0 +1,10 @@
+pub mod Computed
+pub mod Lists
+pub mod Greatest
+pub mod Offsets
+pub mod Painted
+pub mod Lines
+pub mod Comments
+pub mod Walked
+pub mod Keys
+pub mod Keyed

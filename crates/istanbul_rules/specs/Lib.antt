@@ -1,0 +1,6 @@
+pub mod Ignored
+pub mod Walk
+pub mod Parts
+pub mod Painting
+pub mod File
+pub mod Examples
