@@ -1,0 +1,9 @@
+pub mod Skips
+pub mod SoFar
+pub mod Wanted
+pub mod Report
+pub mod Texts
+pub mod Gathering
+pub mod Counting
+pub mod First
+pub mod Examples

@@ -1,0 +1,20 @@
+//! The coverage of the files behind a book of snapshots, and what was left out of it.
+#![tactic(auto)]
+
+mod answer;
+mod asking;
+mod files;
+mod first;
+mod gathering;
+mod laws;
+mod lines;
+mod making;
+mod maps;
+#[cfg(test)]
+mod tests;
+mod texts;
+
+pub use answer::{Report, ReportFault, Skip, SkipCause};
+pub use laws::worked_examples;
+pub use lines::lines_of_skips;
+pub use making::report_of;
