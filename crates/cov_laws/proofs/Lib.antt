@@ -2,3 +2,4 @@ pub mod Written
 pub mod Small
 pub mod OneFile
 pub mod Offsets
+pub mod OfTexts
