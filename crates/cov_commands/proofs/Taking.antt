@@ -18,7 +18,7 @@ use Rattle.cov_book.specs.declared.book.Book.{Book}
 use Rattle.cov_book.specs.Stands.{StandsFor}
 use Rattle.cov_commands.specs.Lines.{answer_line, answer_lines, is_refusal}
 use Rattle.cov_commands.specs.Due.{is_json, paths_of, readings_of, reading_at}
-use Rattle.cov_commands.specs.declared.merge.Merged.{Merged}
+use Rattle.cov_commands.specs.declared.gather.Merged.{Merged}
 use Rattle.cov_commands.specs.Gather.{HasTaken}
 
 -- ---- one more reading
@@ -38,7 +38,7 @@ unfolding answers_over
 length-answers held [] = refl
 length-answers held (x ∷ rs) = let ih = length-answers (after held x) rs in omega arith
 
-length-map : {X Y : Type 0} (f : X → Y) (xs : List X) → length (map f xs) ≡ length xs
+pub length-map : {X Y : Type 0} (f : X → Y) (xs : List X) → length (map f xs) ≡ length xs
 length-map f [] = refl
 length-map f (x ∷ xs) = let ih = length-map f xs in omega arith
 
@@ -52,12 +52,12 @@ lines-snoc (q ∷ ps) (x ∷ xs) p a e =
 
 -- ---- one more name
 
-paths-skip : (folder : List ℕ) (names : List (List ℕ)) (name : List ℕ) → is_json name ≡ false → paths_of folder (names ++ name ∷ []) ≡ paths_of folder names
+pub paths-skip : (folder : List ℕ) (names : List (List ℕ)) (name : List ℕ) → is_json name ≡ false → paths_of folder (names ++ name ∷ []) ≡ paths_of folder names
 unfolding paths_of
 paths-skip folder names name e =
     ap (map (path_in folder)) (filter-append is_json names (name ∷ []) ∙ ap (λ b. filter is_json names ++ cond b (name ∷ []) []) e ∙ append-nil (filter is_json names))
 
-paths-snoc : (folder : List ℕ) (names : List (List ℕ)) (name : List ℕ) → is_json name ≡ true → paths_of folder (names ++ name ∷ []) ≡ paths_of folder names ++ path_in folder name ∷ []
+pub paths-snoc : (folder : List ℕ) (names : List (List ℕ)) (name : List ℕ) → is_json name ≡ true → paths_of folder (names ++ name ∷ []) ≡ paths_of folder names ++ path_in folder name ∷ []
 unfolding paths_of
 paths-snoc folder names name e =
     ap (map (path_in folder)) (filter-append is_json names (name ∷ []) ∙ ap (λ b. filter is_json names ++ cond b (name ∷ []) []) e)

@@ -1,10 +1,12 @@
 -- The statuses of the program.
 use Rattle.std.specs.Prelude.{ℕ}
 use Rattle.cov_commands.specs.declared.ended.Ended.{Ended}
-use Rattle.cov_commands.specs.declared.ended.Ended.TheVariants.{Done, Usage, SomeRefused, ReadFault, WriteFault, NoMemory}
+use Rattle.cov_commands.specs.declared.ended.Ended.TheVariants.{Done, Different, Below, Usage, SomeRefused, ReadFault, WriteFault, NoMemory}
 
 abbrev pub code_of : Ended → ℕ
 code_of Done = 0
+code_of Different = 1
+code_of Below = 1
 code_of Usage = 2
 code_of SomeRefused = 3
 code_of ReadFault = 4

@@ -6,11 +6,13 @@ use Rattle.cov_io.specs.declared.store.StoreFault.{StoreFault}
 use Rattle.cov_io.specs.declared.store.StoreFault.TheVariants as store
 use Rattle.cov_io.specs.declared.store.StoreFault.TheVariants.{Failed, Absent}
 use Rattle.cov_commands.specs.declared.ended.Ended.{Ended}
-use Rattle.cov_commands.specs.declared.ended.Ended.TheVariants.{Done, Usage, SomeRefused, ReadFault, WriteFault, NoMemory}
+use Rattle.cov_commands.specs.declared.ended.Ended.TheVariants.{Done, Different, Below, Usage, SomeRefused, ReadFault, WriteFault, NoMemory}
 
 -- it came to its end
 abbrev pub IsFinished : Ended → Type 0
 IsFinished Done = Unit {0}
+IsFinished Different = Unit {0}
+IsFinished Below = Unit {0}
 IsFinished Usage = ⊥
 IsFinished SomeRefused = Unit {0}
 IsFinished ReadFault = ⊥
@@ -20,6 +22,8 @@ IsFinished NoMemory = ⊥
 -- it came to its end, or there was no memory for it
 abbrev pub IsFinishedOrShort : Ended → Type 0
 IsFinishedOrShort Done = Unit {0}
+IsFinishedOrShort Different = Unit {0}
+IsFinishedOrShort Below = Unit {0}
 IsFinishedOrShort Usage = ⊥
 IsFinishedOrShort SomeRefused = Unit {0}
 IsFinishedOrShort ReadFault = ⊥
@@ -29,6 +33,8 @@ IsFinishedOrShort NoMemory = Unit {0}
 -- the last line on the error sink of a command that didn't
 abbrev pub last_line : Ended → List ℕ
 last_line Done = []
+last_line Different = []
+last_line Below = []
 last_line Usage = codes "usage: merge same normal report check make collect serve attach run\n"
 last_line SomeRefused = []
 last_line ReadFault = codes "fault: read\n"
@@ -48,6 +54,8 @@ IsEndedBy store.NoMemory ended = ended ≡ NoMemory
 -- what a fault says: the cause of each, and nothing of want of memory
 abbrev pub HasWriteCause : ℕ → ℕ → Ended → Type 0
 HasWriteCause before now Done = ⊥
+HasWriteCause before now Different = ⊥
+HasWriteCause before now Below = ⊥
 HasWriteCause before now Usage = ⊥
 HasWriteCause before now SomeRefused = ⊥
 HasWriteCause before now ReadFault = ⊥
@@ -55,10 +63,12 @@ HasWriteCause before now WriteFault = Rose before now
 HasWriteCause before now NoMemory = Unit {0}
 
 -- the words were taken
-abbrev pub IsMergeEnd : Ended → Type 0
-IsMergeEnd Done = Unit {0}
-IsMergeEnd Usage = ⊥
-IsMergeEnd SomeRefused = Unit {0}
-IsMergeEnd ReadFault = Unit {0}
-IsMergeEnd WriteFault = Unit {0}
-IsMergeEnd NoMemory = Unit {0}
+abbrev pub IsTakenEnd : Ended → Type 0
+IsTakenEnd Done = Unit {0}
+IsTakenEnd Different = Unit {0}
+IsTakenEnd Below = Unit {0}
+IsTakenEnd Usage = ⊥
+IsTakenEnd SomeRefused = Unit {0}
+IsTakenEnd ReadFault = Unit {0}
+IsTakenEnd WriteFault = Unit {0}
+IsTakenEnd NoMemory = Unit {0}

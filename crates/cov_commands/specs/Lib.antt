@@ -1,6 +1,9 @@
 pub mod Code
 pub mod Lines
+pub mod Deciding
 pub mod Due
 pub mod Ends
 pub mod Gather
+pub mod Counting
+pub mod Reporting
 pub mod Sure

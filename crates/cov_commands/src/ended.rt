@@ -1,12 +1,17 @@
 //! How a command ends.
 ghost use Rattle.std.specs.Prelude.{◌≡◌};
 ghost use Rattle.cov_commands.specs.Code.{code_of};
+ghost use Rattle.cov_commands.specs.Due.{refused_or_done};
 
 /// The answer of a command.
 #[derive(Clone, Copy, Debug, PartialEq, Eq)]
 pub enum Ended {
     /// It came to its end, and every text was accepted.
     Done,
+    /// It came to its end, and what was compared differs.
+    Different,
+    /// It came to its end, and a share is below its threshold.
+    Below,
     /// The words are no command.
     Usage,
     /// It came to its end, and a text was refused.
@@ -26,11 +31,24 @@ impl Ended {
     {
         match self {
             Ended::Done => 0,
+            Ended::Different => 1,
+            Ended::Below => 1,
             Ended::Usage => 2,
             Ended::SomeRefused => 3,
             Ended::ReadFault => 4,
             Ended::WriteFault => 5,
             Ended::NoMemory => 6,
         }
+    }
+}
+
+/// How a command ends that has come to its end, where a text was refused, or none.
+pub fn refused_or_done(refused: bool) -> Ended
+    ensures { result ≡ refused_or_done refused }
+{
+    if refused {
+        Ended::SomeRefused
+    } else {
+        Ended::Done
     }
 }

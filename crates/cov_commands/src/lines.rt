@@ -69,8 +69,8 @@ fn sums_text(alloc: Global, fault: &SumFault) -> Result<String, AllocError>
     format!(in alloc; ": {held} and {added}")
 }
 
-// The line of a refused text.
-fn refused(alloc: Global, path: &str, why: &[u8]) -> Result<Vec<u8>, AllocError>
+/// The line of a text or a file that is refused for this, with its newline.
+pub fn refused(alloc: Global, path: &str, why: &[u8]) -> Result<Vec<u8>, AllocError>
     ensures { IfOk result (λ line. line.items ≡ lines.refused path.now why.now) }
 {
     let path = cleaned(alloc, path)?;

@@ -1,49 +1,25 @@
-//! Taking the texts of a folder one after the other.
-ghost use Rattle.std.specs.Prelude.{◌≡◌, ◌≤◌, ◌<◌, ◌⊎◌, [], ◌∷◌, ◌++◌, ℕ, List, None, string_bytes, IfOk, IfErr, OnOk, OnErr};
+//! The command `merge FOLDER`.
+ghost use Rattle.std.specs.Prelude.{◌≡◌, ◌≤◌, ◌⊎◌, IfOk, IfErr, OnOk};
 ghost use Rattle.cov_io.specs.Causes.{Rose};
-ghost use Rattle.cov_io.specs.Told.{WhereTold, IsToldAnd, bytes_at, path_in, names_in, FolderIsThere};
-ghost use Rattle.cov_commands.specs.Due as due;
-ghost use Rattle.cov_commands.specs.Due.{FolderIsMissing};
-ghost use Rattle.cov_commands.specs.Gather.{HasTaken};
-ghost use Rattle.cov_commands.specs.Ends.{IsEndedBy};
-ghost use Rattle.cov_model.specs.declared.snapshot.Snapshot.{Snapshot};
-ghost use Rattle.cov_model.specs.Outcome.{after, answer_to};
-ghost use Rattle.cov_model.specs.Reading.{reading};
-ghost use Rattle.cov_model.specs.Sums.{sum_fault};
-ghost use Rattle.cov_book.specs.Stands.{StandsFor, TellsSum};
-ghost use Rattle.cov_commands.specs.Lines.{is_refusal};
-ghost use Rattle.cov_commands.specs.Lines as lines;
+ghost use Rattle.cov_io.specs.Told.{WhereTold, FolderIsThere};
+ghost use Rattle.cov_commands.specs.Due.{merge_due, FolderIsMissing};
+ghost use Rattle.cov_commands.specs.Ends.{IsFinished};
 
 use crate::Ended;
-use crate::lines::answer_line;
-use cov_book::{AddFault, Book, Steps};
-use cov_files::read_snapshot;
-use cov_io::{Store, StoreFault};
-use cov_model::{Answer, Items, Snapshot, TextFault};
-use std::alloc::{AllocError, Global};
-use std::marker::Brand;
-use std::sync::ledger::{Blank, Ledger};
+use crate::due::Due;
+use crate::ended::refused_or_done;
+use crate::gather::{Maps, gather};
+use cov_book::Book;
+use cov_files::normal_text;
+use cov_io::Store;
+use cov_model::Items;
+use std::alloc::Global;
 
-/// The most bytes of a text that are read: one past the greatest size of a text.
-const MOST: usize = 134217729;
-
-/// What is kept of the texts beside the book.
-#[derive(Debug, Drop)]
-pub struct Merged {
-    pub lines: Items<u8>,
-    pub refused: bool,
-}
-
-/// Takes each text of a folder, in byte order of their names.
-pub fn gather<S: Store>(
-    alloc: Global,
-    store: &mut S,
-    book: &mut Book,
-    folder: &str,
-) -> Result<Merged, Ended>
-    requires { StandsFor book.old [] }
-    ensures taken { IfOk result (λ merged. WhereTold (S.files store.old) (λ files.
-        HasTaken folder.now files (names_in folder.now files) book.new merged)) }
+/// What `merge FOLDER` owes: reads the folder's texts in byte order of their names, and sums those that are snapshots
+/// and fit. The one normal file of these is for the output.
+pub fn merge<S: Store>(alloc: Global, store: &mut S, folder: &str) -> Result<Due, Ended>
+    ensures due { IfOk result (λ due. WhereTold (S.files store.old) (λ files. due ≡ merge_due folder.now files)) }
+    ensures ends { IfOk result (λ due. IsFinished due.ended) }
     ensures there { OnOk result (FolderIsThere (S.folders store.old) folder.now) }
     ensures read { IfErr result (λ ended. ended ≡ Ended.ReadFault
         → Rose (S.faults store.old) (S.faults store.new) ⊎ FolderIsMissing (S.folders store.old) folder.now) }
@@ -53,141 +29,18 @@ pub fn gather<S: Store>(
     ensures files { S.files store.new ≡ S.files store.old }
     ensures folders { S.folders store.new ≡ S.folders store.old }
 {
-    let names = match store.list(alloc, folder) {
-        Ok(names) => names,
-        Err(fault) => return Err(ended_by(fault)),
+    let mut book = Book::new(alloc);
+    let merged = match gather(alloc, store, &mut book, folder, Maps::Left) {
+        Ok(merged) => merged,
+        Err(ended) => return Err(ended),
     };
-    let mut merged = Merged {
-        lines: Items::new(alloc),
-        refused: false,
+    let Ok(text) = normal_text(alloc, &book) else {
+        return Err(Ended::NoMemory);
     };
-    for name in names.as_slice() {
-        if let Err(ended) = take_name(alloc, store, book, &mut merged, folder, name.as_str()) {
-            return Err(ended);
-        }
-    }
-    Ok(merged)
-}
-
-fn ended_by(fault: StoreFault) -> Ended
-    ensures { IsEndedBy fault result }
-{
-    match fault {
-        StoreFault::Failed | StoreFault::Absent => Ended::ReadFault,
-        StoreFault::NoMemory => Ended::NoMemory,
-    }
-}
-
-/// Takes the file of a name, where it is a text.
-fn take_name<S: Store>(
-    alloc: Global,
-    store: &mut S,
-    book: &mut Book,
-    merged: &mut Merged,
-    folder: &str,
-    name: &str,
-) -> Result<(), Ended>
-    ensures taken { OnOk result (WhereTold (S.files store.old) (λ files. (names : List (List ℕ))
-        → HasTaken folder.now files names book.old merged.old
-        → HasTaken folder.now files (names ++ name.now ∷ []) book.new merged.new)) }
-    ensures read { IfErr result (λ ended. ended ≡ Ended.ReadFault → Rose (S.faults store.old) (S.faults store.new)
-        ⊎ IsToldAnd (S.files store.old) (λ files. bytes_at (path_in folder.now name.now) files ≡ None)) }
-    ensures only { IfErr result (λ ended. (ended ≡ Ended.ReadFault) ⊎ (ended ≡ Ended.NoMemory)) }
-    ensures later { S.faults store.old ≤ S.faults store.new }
-    ensures kept { OnOk result (S.faults store.new ≡ S.faults store.old) }
-    ensures files { S.files store.new ≡ S.files store.old }
-    ensures folders { S.folders store.new ≡ S.folders store.old }
-{
-    if !is_json(name) {
-        return Ok(());
-    }
-    let path = match path_of(alloc, folder, name) {
-        Ok(path) => path,
-        Err(_) => return Err(Ended::NoMemory),
-    };
-    let bytes = match store.read(alloc, path.as_str(), MOST) {
-        Ok(bytes) => bytes,
-        Err(fault) => return Err(ended_by(fault)),
-    };
-    match take_text(
-        alloc,
-        book,
-        &mut merged.lines,
-        path.as_str(),
-        bytes.as_slice(),
-    ) {
-        Ok(refused) => {
-            merged.refused |= refused;
-            Ok(())
-        }
-        Err(_) => Err(Ended::NoMemory),
-    }
-}
-
-fn is_json(name: &str) -> bool
-    ensures { result ≡ due.is_json name.now }
-{
-    name.as_bytes().ends_with(b".json")
-}
-
-fn path_of(alloc: Global, folder: &str, name: &str) -> Result<String, AllocError>
-    ensures { IfOk result (λ path. string_bytes path ≡ path_in folder.now name.now) }
-{
-    format!(in alloc; "{folder}/{name}")
-}
-
-/// Adds a text to the book, or refuses it with its line. Says whether it was refused.
-fn take_text(
-    alloc: Global,
-    book: &mut Book,
-    written: &mut Items<u8>,
-    path: &str,
-    bytes: &[u8],
-) -> Result<bool, AllocError>
-    ensures book { OnOk result ((held : List Snapshot) → StandsFor book.old held
-        → StandsFor book.new (after held (reading bytes.now))) }
-    ensures lines { OnOk result ((held : List Snapshot) → StandsFor book.old held
-        → written.new ≡ written.old ++ lines.answer_line path.now (answer_to held (reading bytes.now))) }
-    ensures refused { IfOk result (λ refused. (held : List Snapshot) → StandsFor book.old held
-        → refused ≡ is_refusal (answer_to held (reading bytes.now))) }
-{
-    let answer = answer_of(alloc, book, bytes)?;
-    let line = answer_line(alloc, path, &answer)?;
-    written.extend_from_slice(line.as_slice())?;
-    Ok(!matches!(&answer, Answer::Taken))
-}
-
-fn answer_of(alloc: Global, book: &mut Book, bytes: &[u8]) -> Result<Answer, AllocError>
-    ensures book { OnOk result ((held : List Snapshot) → StandsFor book.old held
-        → StandsFor book.new (after held (reading bytes.now))) }
-    ensures answer { IfOk result (λ answer. (held : List Snapshot) → StandsFor book.old held
-        → answer ≡ answer_to held (reading bytes.now)) }
-{
-    match read_snapshot(alloc, bytes) {
-        Ok(snapshot) => match add_counted::<Brand>(book, &snapshot, Blank::new(1)) {
-            Ok(()) => Ok(Answer::Taken),
-            Err(AddFault::Sum(fault)) => Ok(Answer::Past(fault)),
-            Err(AddFault::NoMemory) => Err(AllocError),
-        },
-        Err(TextFault::NoMemory) => Err(AllocError),
-        Err(fault) => Ok(Answer::Bad(fault)),
-    }
-}
-
-/// Adds a snapshot, with a counter of steps that nobody reads.
-fn add_counted<L: Ledger>(
-    book: &mut Book,
-    snapshot: &Snapshot,
-    blank: Blank,
-) -> Result<(), AddFault>
-    requires name { blank.name ≡ L.name }
-    requires parts { (blank.parts ≡ L.parts) × (0 < L.parts) }
-    ensures ok { OnOk result ((held : List Snapshot) → StandsFor book.old held
-        → (sum_fault held snapshot.now ≡ None) × StandsFor book.new (held ++ snapshot.now ∷ [])) }
-    ensures sum { IfErr result (λ fault. (held : List Snapshot) → StandsFor book.old held
-        → TellsSum (sum_fault held snapshot.now) fault) }
-    ensures err { OnErr result (book.new ≡ book.old) }
-{
-    let mut steps: Steps<L> = Steps::new(blank);
-    book.add(snapshot, &mut steps)
+    let ended = refused_or_done(merged.refused);
+    Ok(Due {
+        out: Items::from_vec(text),
+        err: merged.lines,
+        ended,
+    })
 }

@@ -1,22 +1,43 @@
 //! The commands that read folders and files.
-ghost use Rattle.std.specs.Prelude.{◌≡◌, ◌≤◌, ◌⊎◌, ◌↔◌, ◌++◌, [], None, IsSome, IsTrue, map, option_map, string_bytes, codes};
+ghost use Rattle.std.specs.Prelude.{◌≡◌, ◌≤◌, ◌⊎◌, ◌↔◌, ℕ, List, [], None, Some, IsSome, IfOk, IfErr, OnOk, map, string_bytes, unwrap_or};
 ghost use Rattle.std.specs.Io.KnownBytes.{Appends};
 ghost use Rattle.cov_io.specs.Causes.{Rose};
-ghost use Rattle.cov_io.specs.Told.{WhereTold};
+ghost use Rattle.cov_io.specs.Told.{WhereTold, bytes_at};
+ghost use Rattle.cov_model.specs.Files.{IsNormalFile};
+ghost use Rattle.cov_model.specs.Outcome.{accepted};
 ghost use Rattle.cov_io.specs.Grows.{AppendsPart};
-ghost use Rattle.cov_commands.specs.Due.{folder_of, merge_due, due, NamesAbsent, FolderIsMissing};
+ghost use Rattle.cov_words.specs.Asked.{HasPercents, command_of};
+ghost use Rattle.cov_words.specs.declared.command.Command.TheVariants.{Same, Normal};
+ghost use Rattle.cov_commands.specs.Due.{due, due_of, readings, DifferInSums, NamesAbsent, IsMissing};
+ghost use Rattle.cov_commands.specs.Counting.{KeepsStore, KeptStore};
 ghost use Rattle.cov_commands.specs.Sure.{GivesDue};
-ghost use Rattle.cov_commands.specs.Ends.{IsFinished, IsFinishedOrShort, AppendsParts, IsMergeEnd, last_line};
+ghost use Rattle.cov_commands.specs.Ends.{IsFinished, IsFinishedOrShort, AppendsParts, IsTakenEnd, last_line};
 
 use crate::Ended;
-use crate::merge::gather;
-use crate::put::{put, put_text};
-use cov_book::Book;
+use crate::check::check;
+use crate::due::Due;
+use crate::merge::merge;
+use crate::normal::normal;
+use crate::put::{put, put_due};
+use crate::report::report;
+use crate::same::same;
 use cov_io::{Sink, Store, SureSink, SureStore};
+use cov_words::{Command, WordsFault, read_words};
 use std::alloc::Global;
 
-/// Runs `merge FOLDER`: reads the folder's texts in byte order of their names, sums those that are snapshots and
-/// fit, writes the one normal file of these to `out`, and a line for each refused text to `err`.
+/// Runs the command that the words ask for:
+///
+/// - `merge FOLDER` reads the folder's texts in byte order of their names, sums those that are snapshots and fit, and
+///   writes the one normal file of these to `out`;
+/// - `same ONE OTHER` reads the texts of both folders so, and writes `same` or `different`, as their sums are;
+/// - `normal FILE` writes `normal` where the file is a normal file;
+/// - `report FOLDER --as FORM` reads the texts as `merge` does, with what they say of the maps of their scripts, and writes the
+///   coverage of the files behind them as `json` (coverage files of Istanbul), `lcov` or `text` (a table);
+/// - `check FOLDER --lines N --branches N --functions N` writes a line for each of these shares of that report that is below its
+///   percentage.
+///
+/// Each writes a line for each refused text, or for the file that it refused, to `err`. The last two then write a line for each
+/// script or source that the report leaves out.
 pub fn run_tool<S: Store, O: Sink, E: Sink>(
     alloc: Global,
     words: &[String],
@@ -24,12 +45,20 @@ pub fn run_tool<S: Store, O: Sink, E: Sink>(
     out: &mut O,
     err: &mut E,
 ) -> Ended
-    // The headline: what stands in the sinks when the command has come to its end, and whether it then says that a
-    // text was refused.
-    ensures merged { IsFinished result → WhereTold (due (map string_bytes words.now) (S.files store.old)) (λ d.
+    // The headline: what stands in the sinks when the command has come to its end, and how it says that it ended.
+    ensures done { IsFinished result → WhereTold (due (map string_bytes words.now) (S.files store.old)) (λ d.
         (result ≡ d.ended)
         × Appends (O.held out.old) (O.held out.new) d.out
         × Appends (E.held err.old) (E.held err.new) d.err) }
+
+    // So `Different` comes exactly where the accepted texts of the two folders come to other sums, and the file of
+    // `normal` is a normal file exactly where it says `Done`.
+    ensures different { IsFinished result → WhereTold (S.files store.old) (λ files. (one other : List ℕ)
+        → command_of (map string_bytes words.now) ≡ Some (Same one other)
+        → (result ≡ Ended.Different) ↔ DifferInSums (accepted (readings one files)) (accepted (readings other files))) }
+    ensures normal { IsFinished result → WhereTold (S.files store.old) (λ files. (path : List ℕ)
+        → command_of (map string_bytes words.now) ≡ Some (Normal path)
+        → (result ≡ Ended.Done) ↔ IsNormalFile (unwrap_or (bytes_at path files) [])) }
 
     // Whatever the answer, the sinks have got no more than a prefix of what is due, and then of the answer's last line.
     ensures part_out { WhereTold (due (map string_bytes words.now) (S.files store.old)) (λ d.
@@ -41,30 +70,35 @@ pub fn run_tool<S: Store, O: Sink, E: Sink>(
     ensures order { WhereTold (due (map string_bytes words.now) (S.files store.old)) (λ d.
         Appends (O.held out.old) (O.held out.new) d.out ⊎ AppendsPart (E.held err.old) (E.held err.new) (last_line result)) }
 
-    // `Usage` comes exactly where the words are no command. Then the store was not called, and nothing was put out.
-    ensures usage { (result ≡ Ended.Usage) ↔ (folder_of (map string_bytes words.now) ≡ None) }
-    ensures usage_store { result ≡ Ended.Usage → store.new ≡ store.old }
-    ensures usage_out { result ≡ Ended.Usage → out.new ≡ out.old }
-    ensures usage_err { result ≡ Ended.Usage → AppendsPart (E.held err.old) (E.held err.new) (last_line Ended.Usage) }
+    // `Usage` comes exactly where the words are no command, unless there was no memory to read them. Then the store was
+    // not called, and nothing was put out but the last line.
+    ensures usage { result ≡ Ended.Usage → command_of (map string_bytes words.now) ≡ None }
+    ensures usage_only { command_of (map string_bytes words.now) ≡ None → (result ≡ Ended.Usage) ⊎ (result ≡ Ended.NoMemory) }
+    ensures usage_store { command_of (map string_bytes words.now) ≡ None → store.new ≡ store.old }
+    ensures usage_out { command_of (map string_bytes words.now) ≡ None → out.new ≡ out.old }
+    ensures usage_err { command_of (map string_bytes words.now) ≡ None
+        → AppendsPart (E.held err.old) (E.held err.new) (last_line result) }
 
     // Each fault has its cause, and before a fault of the store nothing was put out.
     ensures read { result ≡ Ended.ReadFault
-        → Rose (S.faults store.old) (S.faults store.new) ⊎ NamesAbsent (map string_bytes words.now) (S.folders store.old) }
+        → Rose (S.faults store.old) (S.faults store.new) ⊎ NamesAbsent (map string_bytes words.now) (S.files store.old) (S.folders store.old) }
     ensures read_out { result ≡ Ended.ReadFault → out.new ≡ out.old }
     ensures write { result ≡ Ended.WriteFault
         → Rose (O.faults out.old) (O.faults out.new) ⊎ Rose (E.faults err.old) (E.faults err.new) }
 
-    // No fault is passed over, and a folder that is absent is not taken for an empty one.
-    ensures kept_store { IsFinished result → S.faults store.new ≡ S.faults store.old }
+    // No fault is passed over, and what is absent is not taken for empty.
+    // Only a source that a report finds absent may raise the store's count, and has its line.
+    ensures kept_store { IsFinished result → KeptStore (command_of (map string_bytes words.now)) (S.files store.old)
+        (S.faults store.old) (S.faults store.new) (E.held err.old) (E.held err.new) }
     ensures kept_out { IsFinished result → O.faults out.new ≡ O.faults out.old }
     ensures kept_err { IsFinished result → E.faults err.new ≡ E.faults err.old }
-    ensures absent { NamesAbsent (map string_bytes words.now) (S.folders store.old)
+    ensures absent { NamesAbsent (map string_bytes words.now) (S.files store.old) (S.folders store.old)
         → (result ≡ Ended.ReadFault) ⊎ (result ≡ Ended.NoMemory) }
 
-    // Completeness: where the words are taken, no count rose and no folder that they name is absent, the command comes
+    // Completeness: where the words are taken, no count rose and nothing that they name is absent, the command comes
     // to its end, or wants memory.
-    ensures complete { IsSome (folder_of (map string_bytes words.now))
-        → ¬ NamesAbsent (map string_bytes words.now) (S.folders store.old)
+    ensures complete { IsSome (command_of (map string_bytes words.now))
+        → ¬ NamesAbsent (map string_bytes words.now) (S.files store.old) (S.folders store.old)
         → ¬ Rose (S.faults store.old) (S.faults store.new)
         → ¬ Rose (O.faults out.old) (O.faults out.new)
         → ¬ Rose (E.faults err.old) (E.faults err.new)
@@ -77,17 +111,13 @@ pub fn run_tool<S: Store, O: Sink, E: Sink>(
     ensures files { S.files store.new ≡ S.files store.old }
     ensures folders { S.folders store.new ≡ S.folders store.old }
 {
-    match folder_word(words) {
-        Some(folder) => {
-            let ended = merge(alloc, store, out, err, folder);
-            tell_end(err, ended);
-            ended
-        }
-        None => {
-            tell_end(err, Ended::Usage);
-            Ended::Usage
-        }
-    }
+    let ended = match read_words(alloc, words) {
+        Ok(command) => run(alloc, &command, store, out, err),
+        Err(WordsFault::Usage) => Ended::Usage,
+        Err(WordsFault::NoMemory) => Ended::NoMemory,
+    };
+    tell_end(err, ended);
+    ended
 }
 
 /// Runs a command over a store and sinks that never fail: it ends as it is due, with what is due, or wants memory.
@@ -101,16 +131,6 @@ pub fn run_sure(
     ensures { GivesDue (map string_bytes words.now) store.old out.old out.new err.old err.new result }
 {
     run_tool(alloc, words, store, out, err)
-}
-
-/// The folder of `merge FOLDER`.
-fn folder_word(words: &[String]) -> Option<&str>
-    ensures { option_map (λ folder. folder.now) result ≡ folder_of (map string_bytes words.now) }
-{
-    match words {
-        [word, folder] if word.as_str() == "merge" => Some(folder.as_str()),
-        _ => None,
-    }
 }
 
 /// Writes the last line of a command that did not come to its end. Whether it can be written changes nothing.
@@ -129,7 +149,7 @@ fn line_of(ended: Ended) -> &'static str
     ensures { result.now ≡ last_line ended }
 {
     match ended {
-        Ended::Done | Ended::SomeRefused => "",
+        Ended::Done | Ended::Different | Ended::Below | Ended::SomeRefused => "",
         Ended::Usage => "usage: merge same normal report check make collect serve attach run\n",
         Ended::ReadFault => "fault: read\n",
         Ended::WriteFault => "fault: write\n",
@@ -138,33 +158,41 @@ fn line_of(ended: Ended) -> &'static str
 }
 
 /// The command after its words, without its last line.
-fn merge<S: Store, O: Sink, E: Sink>(
+fn run<S: Store, O: Sink, E: Sink>(
     alloc: Global,
+    command: &Command,
     store: &mut S,
     out: &mut O,
     err: &mut E,
-    folder: &str,
 ) -> Ended
-    ensures merged { IsFinished result → WhereTold (S.files store.old) (λ files.
-        (result ≡ (merge_due folder.now files).ended)
-        × Appends (O.held out.old) (O.held out.new) (merge_due folder.now files).out
-        × Appends (E.held err.old) (E.held err.new) (merge_due folder.now files).err) }
+    requires { HasPercents command.now }
+    ensures done { IsFinished result → WhereTold (S.files store.old) (λ files.
+        (result ≡ (due_of command.now files).ended)
+        × Appends (O.held out.old) (O.held out.new) (due_of command.now files).out
+        × Appends (E.held err.old) (E.held err.new) (due_of command.now files).err) }
+    ensures different { IsFinished result → WhereTold (S.files store.old) (λ files. (one other : List ℕ)
+        → command.now ≡ Same one other
+        → (result ≡ Ended.Different) ↔ DifferInSums (accepted (readings one files)) (accepted (readings other files))) }
+    ensures normal { IsFinished result → WhereTold (S.files store.old) (λ files. (path : List ℕ)
+        → command.now ≡ Normal path
+        → (result ≡ Ended.Done) ↔ IsNormalFile (unwrap_or (bytes_at path files) [])) }
     ensures part_out { WhereTold (S.files store.old) (λ files.
-        AppendsPart (O.held out.old) (O.held out.new) (merge_due folder.now files).out) }
+        AppendsPart (O.held out.old) (O.held out.new) (due_of command.now files).out) }
     ensures part_err { WhereTold (S.files store.old) (λ files.
-        AppendsPart (E.held err.old) (E.held err.new) (merge_due folder.now files).err) }
+        AppendsPart (E.held err.old) (E.held err.new) (due_of command.now files).err) }
     ensures order { WhereTold (S.files store.old) (λ files.
-        Appends (O.held out.old) (O.held out.new) (merge_due folder.now files).out ⊎ (err.new ≡ err.old)) }
-    ensures answers { IsMergeEnd result }
-    ensures read { result ≡ Ended.ReadFault
-        → Rose (S.faults store.old) (S.faults store.new) ⊎ FolderIsMissing (S.folders store.old) folder.now }
+        Appends (O.held out.old) (O.held out.new) (due_of command.now files).out ⊎ (err.new ≡ err.old)) }
+    ensures answers { IsTakenEnd result }
+    ensures read { result ≡ Ended.ReadFault → Rose (S.faults store.old) (S.faults store.new)
+        ⊎ IsMissing command.now (S.files store.old) (S.folders store.old) }
     ensures read_out { result ≡ Ended.ReadFault → out.new ≡ out.old }
     ensures write { result ≡ Ended.WriteFault
         → Rose (O.faults out.old) (O.faults out.new) ⊎ Rose (E.faults err.old) (E.faults err.new) }
-    ensures kept_store { IsFinished result → S.faults store.new ≡ S.faults store.old }
+    ensures kept_store { IsFinished result → KeptStore (Some command.now) (S.files store.old)
+        (S.faults store.old) (S.faults store.new) (E.held err.old) (E.held err.new) }
     ensures kept_out { IsFinished result → O.faults out.new ≡ O.faults out.old }
     ensures kept_err { IsFinished result → E.faults err.new ≡ E.faults err.old }
-    ensures absent { FolderIsMissing (S.folders store.old) folder.now
+    ensures absent { IsMissing command.now (S.files store.old) (S.folders store.old)
         → (result ≡ Ended.ReadFault) ⊎ (result ≡ Ended.NoMemory) }
     ensures later_store { S.faults store.old ≤ S.faults store.new }
     ensures later_out { O.faults out.old ≤ O.faults out.new }
@@ -172,20 +200,43 @@ fn merge<S: Store, O: Sink, E: Sink>(
     ensures files { S.files store.new ≡ S.files store.old }
     ensures folders { S.folders store.new ≡ S.folders store.old }
 {
-    let mut book = Book::new(alloc);
-    let merged = match gather(alloc, store, &mut book, folder) {
-        Ok(merged) => merged,
-        Err(ended) => return ended,
-    };
-    if let Err(ended) = put_text(alloc, &book, out) {
-        return ended;
+    match look(alloc, command, store) {
+        Ok(due) => put_due(out, err, &due),
+        Err(ended) => ended,
     }
-    if let Err(ended) = put(err, merged.lines.as_slice()) {
-        return ended;
-    }
-    if merged.refused {
-        Ended::SomeRefused
-    } else {
-        Ended::Done
+}
+
+/// What the command owes, by what the store gives.
+fn look<S: Store>(alloc: Global, command: &Command, store: &mut S) -> Result<Due, Ended>
+    requires { HasPercents command.now }
+    ensures due { IfOk result (λ due. WhereTold (S.files store.old) (λ files. due ≡ due_of command.now files)) }
+    ensures ends { IfOk result (λ due. IsFinished due.ended) }
+    ensures there { OnOk result (IsMissing command.now (S.files store.old) (S.folders store.old) → ⊥) }
+    ensures read { IfErr result (λ ended. ended ≡ Ended.ReadFault → Rose (S.faults store.old) (S.faults store.new)
+        ⊎ IsMissing command.now (S.files store.old) (S.folders store.old)) }
+    ensures only { IfErr result (λ ended. (ended ≡ Ended.ReadFault) ⊎ (ended ≡ Ended.NoMemory)) }
+    ensures later { S.faults store.old ≤ S.faults store.new }
+    ensures kept { IfOk result (λ due. KeepsStore command.now (S.files store.old) (S.faults store.old) (S.faults store.new) due.err) }
+    ensures files { S.files store.new ≡ S.files store.old }
+    ensures folders { S.folders store.new ≡ S.folders store.old }
+{
+    match command {
+        Command::Merge { folder } => merge(alloc, store, folder.as_text()),
+        Command::Same { one, other } => same(alloc, store, one.as_text(), other.as_text()),
+        Command::Normal { file } => normal(alloc, store, file.as_text()),
+        Command::Report { folder, form } => report(alloc, store, folder.as_text(), *form),
+        Command::Check {
+            folder,
+            lines,
+            branches,
+            functions,
+        } => check(
+            alloc,
+            store,
+            folder.as_text(),
+            *lines,
+            *branches,
+            *functions,
+        ),
     }
 }

@@ -2,6 +2,10 @@
 #![tactic(auto)]
 
 #[cfg(test)]
+mod checking;
+#[cfg(test)]
+mod comparing;
+#[cfg(test)]
 mod failing;
 #[cfg(test)]
 mod fields;
@@ -11,5 +15,7 @@ mod merging;
 mod outside;
 #[cfg(test)]
 mod refusing;
+#[cfg(test)]
+mod reporting;
 #[cfg(test)]
 mod stage;

@@ -57,10 +57,11 @@ pub(crate) fn one(alloc: Global, ranges: &[Given]) -> Result<String, AllocError>
     snapshot_text(alloc, script.as_str())
 }
 
-/// A store with the folder `cov` and these files.
+/// A store with the folders `cov` and `more`, and these files.
 pub(crate) fn store_of(alloc: Global, files: &[GivenFile<'_>]) -> Result<MemStore, AllocError> {
     let mut folders = Items::new(alloc);
     folders.push(Text::from_text(alloc, "cov")?)?;
+    folders.push(Text::from_text(alloc, "more")?)?;
     let mut held = Items::new(alloc);
     for (path, text) in files {
         held.push(MemFile {
@@ -98,16 +99,17 @@ pub(crate) fn words_of(alloc: Global, words: &[&str]) -> Result<Vec<String>, All
     Ok(given)
 }
 
-/// Runs `merge cov` over these files, and asserts what it writes and how it ends.
-pub(crate) fn merges<R: Abort + AllocGlobal>(
+/// Runs the command of these words over these files, and asserts what it writes and how it ends.
+pub(crate) fn gives<R: Abort + AllocGlobal>(
     rt: &R,
+    words: &[&str],
     files: &[GivenFile<'_>],
     out: &str,
     err: &str,
     ended: Ended,
 ) -> Result<(), Fail> {
     let alloc = rt.alloc();
-    let words = words_of(alloc, &["merge", "cov"])?;
+    let words = words_of(alloc, words)?;
     let mut store = store_of(alloc, files)?;
     let mut written = sink_of(alloc, &[])?;
     let mut told = sink_of(alloc, &[])?;
@@ -116,6 +118,17 @@ pub(crate) fn merges<R: Abort + AllocGlobal>(
     assert!(rt; text_of(&told) == err.as_bytes(), "the error sink");
     assert_eq!(rt; answer, ended);
     Ok(())
+}
+
+/// Runs `merge cov` over these files.
+pub(crate) fn merges<R: Abort + AllocGlobal>(
+    rt: &R,
+    files: &[GivenFile<'_>],
+    out: &str,
+    err: &str,
+    ended: Ended,
+) -> Result<(), Fail> {
+    gives(rt, &["merge", "cov"], files, out, err, ended)
 }
 
 /// The bytes that a sink holds.

@@ -1,0 +1,169 @@
+-- What the commands answer.
+use Rattle.std.proofs.Common.{◌≡◌, ℕ, ◌<◌, Bool, true, false, List, [], ◌∷◌, ◌++◌, length, take, refl, sym, ap, ap₂, ◌∙◌, subst, arith, inl, inr}
+use Rattle.std.specs.Prelude.{Option, None, Some, Ok, Err, option_map, option_and_then, unwrap_or, cond, ◌||◌, ◌↔◌, IsTrue, nat_lt, codes}
+use Rattle.std.specs.List.{list_any}
+use Rattle.std.proofs.lemmas.Bool.{lt-ltb, le-ltb, cases_lt, false≢true}
+use Rattle.std.proofs.lemmas.List.{take_all, length-take-le}
+use Rattle.cov_text.specs.Listing.{max_text}
+use Rattle.cov_model.specs.declared.snapshot.Snapshot.{Snapshot}
+use Rattle.cov_model.specs.declared.snapshot.TextFault.TheVariants.{TooLong, Syntax}
+use Rattle.cov_model.specs.File.{file}
+use Rattle.cov_model.specs.Files.{IsNormalFile, IsNormalFileOf}
+use Rattle.cov_model.specs.Held.{Held, held_of}
+use Rattle.cov_model.specs.Outcome.{Reading, accepted, answers}
+use Rattle.cov_model.specs.Reading.{reading, or_fault, parsed, shaped, snapshot_of, ◌>>=◌}
+use Rattle.cov_io.specs.Told.{Files, bytes_at, names_in}
+use Rattle.cov_book.specs.declared.book.Book.{Book}
+use Rattle.cov_book.specs.Stands.{StandsFor}
+use Rattle.cov_words.specs.Asked.{command_of}
+use Rattle.cov_words.specs.declared.command.Command.{Command}
+use Rattle.cov_commands.specs.declared.due.Due.{Due}
+use Rattle.cov_commands.specs.declared.ended.Ended.{Ended}
+use Rattle.cov_commands.specs.declared.ended.Ended.TheVariants.{Done, Different, SomeRefused}
+use Rattle.cov_commands.specs.declared.gather.Merged.{Merged}
+use Rattle.cov_commands.specs.Deciding.{same_sums, is_normal}
+use Rattle.cov_commands.specs.Due.{readings, due, due_of, refused_or_done, merge_due, same_answer, same_due, accepted_due, refused_due, normal_answer, normal_due, DifferInSums}
+use Rattle.cov_commands.specs.Ends.{IsFinished}
+use Rattle.cov_commands.specs.Gather.{HasTaken}
+use Rattle.cov_commands.specs.Lines.{is_refusal}
+use Rattle.cov_commands.proofs.Decided.{told-same, sums-Decides, normal-is, is-normal, none-normal}
+
+-- ---- `same`
+
+-- what is said of two folders that were taken
+pub same-is-due : (one other : List ℕ) (files : Files) (b c : Book) (m n : Merged) (agree : Bool) (due : Due)
+    → HasTaken one files (names_in one files) b m → HasTaken other files (names_in other files) c n → IsTrue agree ↔ (b ≡ c)
+    → due ≡ same_answer agree (m.lines ++ n.lines) (m.refused || n.refused) → due ≡ same_due one other files
+same-is-due one other files b c m n agree due h k told is =
+    let rs = readings one files in
+    let qs = readings other files in
+    let agrees : agree ≡ same_sums (held_of (accepted rs)) (held_of (accepted qs)) = told-same agree b c told ∙ ap₂ same_sums h.book.sums k.book.sums in
+    let lines = ap₂ (λ (xs ys : List ℕ). xs ++ ys) h.lines k.lines in
+    let refused = ap₂ (λ (s t : Bool). s || t) h.refused k.refused in
+    is ∙ ap (λ (t : Bool). same_answer t (m.lines ++ n.lines) (m.refused || n.refused)) agrees
+    ∙ ap₂ (λ (xs : List ℕ) (t : Bool). same_answer (same_sums (held_of (accepted rs)) (held_of (accepted qs))) xs t) lines refused
+
+-- ---- `normal`
+
+pub too-long : (path bytes : List ℕ) → max_text < length bytes → normal_answer path bytes ≡ refused_due path (codes "too long")
+too-long path bytes longer = rw (lt-ltb max_text (length bytes) longer) refl
+
+-- a file that is cut past its greatest size is answered as the whole
+pub answer-cut : (path bytes : List ℕ) → normal_answer path (take 134217729 bytes) ≡ normal_answer path bytes
+answer-cut path bytes =
+    elim (cases_lt max_text (length bytes)) [
+      | inl longer ↦
+          let cut : length (take 134217729 bytes) ≡ 134217729 = length-take-le 134217729 bytes (omega arith) in
+          let still : max_text < length (take 134217729 bytes) = omega arith in
+          too-long path (take 134217729 bytes) still ∙ sym (too-long path bytes longer)
+      | inr short ↦ ap (normal_answer path) (take_all 134217729 bytes (omega arith))
+    ]
+
+pub answer-found : (path : List ℕ) (found : Option (List ℕ)) (bytes : List ℕ) → option_map (take 134217729) found ≡ Some bytes
+    → normal_answer path bytes ≡ normal_answer path (unwrap_or found [])
+answer-found path None bytes e = absurd cc
+answer-found path (Some text) bytes e = ap (normal_answer path) (sym (ap (λ o. unwrap_or o []) e)) ∙ answer-cut path text
+
+pub found-there : (found : Option (List ℕ)) (bytes : List ℕ) → option_map (take 134217729) found ≡ Some bytes → found ≡ None → ⊥
+found-there None bytes e none = absurd cc
+found-there (Some text) bytes e none = absurd cc
+
+-- ---- what the ends say
+
+no-same-end : (refused : Bool) → refused_or_done refused ≡ Different → ⊥
+no-same-end true e = absurd cc
+no-same-end false e = absurd cc
+
+-- `same` says that the sums differ exactly where they do
+pub differs : (one other : List ℕ) (files : Files) (ended : Ended) → ended ≡ (same_due one other files).ended
+    → (ended ≡ Different) ↔ DifferInSums (accepted (readings one files)) (accepted (readings other files))
+differs one other files ended is = by (same_sums h k) refl
+  where
+    h : Held
+    h = held_of (accepted (readings one files))
+
+    k : Held
+    k = held_of (accepted (readings other files))
+
+    refused : Bool
+    refused = list_any is_refusal (answers (readings one files)) || list_any is_refusal (answers (readings other files))
+
+    by : (b : Bool) → same_sums h k ≡ b → (ended ≡ Different) ↔ (h ≡ k → ⊥)
+    by true e = (
+      λ different. absurd (no-same-end refused (sym (is ∙ ap (λ (b : Bool). (same_answer b [] refused).ended) e) ∙ different)),
+      λ differ. absurd (differ ((sums-Decides h k).0 e)),
+    )
+    by false e = (
+      λ different. λ same. false≢true (sym e ∙ (sums-Decides h k).1 same),
+      λ differ. is ∙ ap (λ (b : Bool). (same_answer b [] refused).ended) e,
+    )
+
+short-read : (bytes : List ℕ) (s : Snapshot) → reading bytes ≡ Ok s → nat_lt max_text (length bytes) ≡ false
+unfolding reading
+short-read bytes s read = by (nat_lt max_text (length bytes)) refl
+  where
+    rest : Reading
+    rest = or_fault Syntax (parsed bytes) >>= λ d. shaped (snapshot_of d)
+
+    by : (b : Bool) → nat_lt max_text (length bytes) ≡ b → nat_lt max_text (length bytes) ≡ false
+    by true e = absurd (let long : Err TooLong ≡ Ok s = sym (ap (λ (t : Bool). cond t (Err TooLong) rest) e) ∙ read in cc)
+    by false e = e
+
+-- `normal` says that it is done exactly where the bytes are a normal file
+pub tells-normal : (path : List ℕ) (files : Files) (ended : Ended) → ended ≡ (normal_due path files).ended
+    → (ended ≡ Done) ↔ IsNormalFile (unwrap_or (bytes_at path files) [])
+tells-normal path files ended is = (
+  λ done. there (nat_lt max_text (length bytes)) (is_normal bytes) refl (sym is ∙ done),
+  λ normal. is ∙ ap₂ end_of (short-read bytes normal.0 normal.1.read) (is-normal bytes normal.0 normal.1),
+)
+  where
+    bytes : List ℕ
+    bytes = unwrap_or (bytes_at path files) []
+
+    end_of : Bool → Bool → Ended
+    end_of long normal = (cond long (refused_due path (codes "too long")) (cond normal accepted_due (refused_due path (codes "not normal")))).ended
+
+    there : (long normal : Bool) → is_normal bytes ≡ normal → end_of long normal ≡ Done → IsNormalFile bytes
+    there true normal e done = absurd cc
+    there false true e done = normal-is bytes e
+    there false false e done = absurd cc
+
+-- the book's file, the lines and the end are those of the folder
+pub merge-is-due : (folder : List ℕ) (files : Files) (b : Book) (m : Merged) (text : List ℕ) (due : Due)
+    → HasTaken folder files (names_in folder files) b m → ((held : List Snapshot) → StandsFor b held → text ≡ file held)
+    → due ≡ record { out = text; err = m.lines; ended = refused_or_done m.refused } → due ≡ merge_due folder files
+merge-is-due folder files b m text due h written is =
+    let out = written (accepted (readings folder files)) h.book in
+    let lines = h.lines in
+    let refused = h.refused in
+    is ∙ (λ i. record { out = out i; err = lines i; ended = refused_or_done (refused i) })
+
+-- what is due for a normal file, and for a file that is none
+pub normal-due : (path bytes : List ℕ) (s : Snapshot) → IsNormalFileOf s bytes → normal_answer path bytes ≡ accepted_due
+normal-due path bytes s normal = rw (short-read bytes s normal.read, is-normal bytes s normal) refl
+
+pub none-due : (path bytes : List ℕ) → (max_text < length bytes → ⊥) → (IsNormalFile bytes → ⊥) → normal_answer path bytes ≡ refused_due path (codes "not normal")
+none-due path bytes short none =
+    let not_long : nat_lt max_text (length bytes) ≡ false = elim (cases_lt max_text (length bytes)) [ inl longer ↦ absurd (short longer) | inr le ↦ le-ltb max_text (length bytes) le ] in
+    rw (not_long, none-normal bytes none) refl
+
+pub answer-finished : (path bytes : List ℕ) → IsFinished (normal_answer path bytes).ended
+answer-finished path bytes = by (nat_lt max_text (length bytes)) (is_normal bytes)
+  where
+    by : (long normal : Bool) → IsFinished (cond long (refused_due path (codes "too long")) (cond normal accepted_due (refused_due path (codes "not normal")))).ended
+    by true normal = tt
+    by false true = tt
+    by false false = tt
+
+-- ---- what is due for words
+
+pub due-is : (words : List (List ℕ)) (told : Option Files) (command : Command) (d : Due) → command_of words ≡ Some command → due words told ≡ Some d
+    → (files : Files) × (told ≡ Some files) × (due_of command files ≡ d)
+due-is words told command d is owed = by told refl (sym (ap (option_and_then (λ (c : Command). option_map (due_of c) told)) is) ∙ owed)
+  where
+    by : (o : Option Files) → told ≡ o → option_map (due_of command) told ≡ Some d → (files : Files) × (told ≡ Some files) × (due_of command files ≡ d)
+    by None e given = absurd (let none : None ≡ Some d = sym (ap (option_map (due_of command)) e) ∙ given in cc)
+    by (Some files) e given = (files, e, (let some : Some (due_of command files) ≡ Some d = sym (ap (option_map (due_of command)) e) ∙ given in cc))
+
+pub same-command : (words : List (List ℕ)) (one other : Command) → command_of words ≡ Some one → command_of words ≡ Some other → one ≡ other
+same-command words one other e f = let same : Some one ≡ Some other = sym e ∙ f in cc

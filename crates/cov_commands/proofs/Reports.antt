@@ -1,0 +1,35 @@
+-- The report of a folder, of what was taken of it.
+use Rattle.std.proofs.Common.{◌≡◌, ℕ, List, ◌++◌, map, ap, ap₂, ◌∙◌}
+use Rattle.cov_model.specs.declared.snapshot.Snapshot.{Snapshot}
+use Rattle.cov_model.specs.Outcome.{accepted}
+use Rattle.cov_io.specs.Told.{Files, names_in}
+use Rattle.cov_book.specs.declared.book.Book.{Book}
+use Rattle.cov_book.specs.Stands.{StandsFor}
+use Rattle.source_maps.specs.Entries.{Said, said}
+use Rattle.cov_report.specs.declared.answer.Report.{Report}
+use Rattle.cov_report.specs.Report as reports
+use Rattle.cov_report.specs.Texts.{skip_lines}
+use Rattle.cov_commands.specs.declared.gather.Merged.{Merged}
+use Rattle.cov_commands.specs.declared.gather.Maps.TheVariants.{Kept}
+use Rattle.cov_commands.specs.Due.{readings, report_in}
+use Rattle.cov_commands.specs.Gather.{HasTaken, HasKept}
+use Rattle.cov_commands.specs.Reporting.{TellsReport}
+
+-- it is that of the folder
+pub is-report-in : (folder : List ℕ) (files : Files) (b : Book) (m : Merged) (r : Report)
+    → HasTaken folder files (names_in folder files) b m → HasKept Kept folder files (names_in folder files) m
+    → ((held : List Snapshot) → StandsFor b held → r ≡ reports.report held (map said m.entries.items) files) → r ≡ report_in folder files
+unfolding report_in
+is-report-in folder files b m r taken kept made =
+    made (accepted (readings folder files)) taken.book ∙ ap (λ (entries : List Said). reports.report (accepted (readings folder files)) entries files) kept
+
+-- and is told with its lines
+pub tells-report : (folder : List ℕ) (files : Files) (b : Book) (m : Merged) (r : Report) (written : List ℕ)
+    → HasTaken folder files (names_in folder files) b m → r ≡ report_in folder files → written ≡ m.lines ++ skip_lines r.skips
+    → TellsReport folder files (record { report = r; lines = written; refused = m.refused })
+tells-report folder files b m r written taken is lines =
+    record {
+      report = is;
+      lines = lines ∙ ap₂ (λ (xs : List ℕ) (p : Report). xs ++ skip_lines p.skips) taken.lines is;
+      refused = taken.refused;
+    }

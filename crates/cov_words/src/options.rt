@@ -1,0 +1,161 @@
+//! Reading the words of commands that have options.
+ghost use Rattle.std.specs.Prelude.{◌≡◌, ◌≤◌, None, Some, false, codes, map, string_bytes, IfOk, IfErr};
+ghost use Rattle.clap.specs.Words.{app_of, found_of, rows_of, rule_of};
+ghost use Rattle.clap.specs.declared.builder.value_parser.ValueParser.TheVariants.{Unsigned};
+ghost use Rattle.cov_words.specs.Asked as spec;
+ghost use Rattle.cov_words.specs.Asked.{HasPercents, asked, check_app, check_from, form_named, percent_of, report_app, report_from};
+
+use crate::reading::{parsed, value, wanted};
+use crate::{Command, Form, WordsFault};
+use clap::builder::ValueParser;
+use clap::{Arg, ArgMatches};
+use std::alloc::{AllocError, Global};
+
+/// An option that has this value where it isn't given.
+fn option<'a>(alloc: Global, name: &'a str, value: &'a str) -> Arg<'a>
+    ensures rule { rule_of result ≡ spec.option name.entry.now value.entry.now }
+    ensures local { result.global ≡ false }
+{
+    Arg::new(alloc, name).long(name).default_value(value)
+}
+
+/// The values of an option that is a percentage.
+fn percents<'a>() -> ValueParser<'a>
+    ensures { result ≡ Unsigned 0 100 }
+{
+    clap::value_parser!(u64).range(0..=100)
+}
+
+/// An option whose value is a percentage, and 0 where it isn't given.
+fn percent<'a>(alloc: Global, name: &'a str) -> Arg<'a>
+    ensures rule { rule_of result ≡ spec.percent name.entry.now }
+    ensures local { result.global ≡ false }
+{
+    option(alloc, name, "0").value_parser(percents())
+}
+
+/// The percentage that an option has.
+fn percent_in(matches: &ArgMatches<'_>, name: &str) -> Result<u64, WordsFault>
+    ensures ok { IfOk result (λ n. percent_of name.now (rows_of (found_of matches.now)) ≡ Some n) }
+    ensures usage { IfErr result (λ fault. fault ≡ WordsFault.Usage → percent_of name.now (rows_of (found_of matches.now)) ≡ None) }
+    ensures within { IfOk result (λ n. n ≤ 100) }
+{
+    let Some(percent) = matches.get_one::<u64>(name) else {
+        return Err(WordsFault::Usage);
+    };
+    if percent > 100 {
+        return Err(WordsFault::Usage);
+    }
+    Ok(percent)
+}
+
+/// The form of this name.
+fn form_of(name: &str) -> Result<Form, WordsFault>
+    ensures ok { IfOk result (λ form. form_named name.now ≡ Some form) }
+    ensures usage { IfErr result (λ fault. form_named name.now ≡ None) }
+{
+    if name == "json" {
+        Ok(Form::Json)
+    } else if name == "lcov" {
+        Ok(Form::Lcov)
+    } else if name == "text" {
+        Ok(Form::Text)
+    } else {
+        Err(WordsFault::Usage)
+    }
+}
+
+// ---- each command: how `clap` knows it, and what is read of its matches
+
+fn report_command<'a>(alloc: Global) -> Result<clap::Command<'a>, AllocError>
+    ensures { IfOk result (λ command. app_of command ≡ report_app) }
+{
+    let command = clap::Command::new(alloc, "report").arg(wanted(alloc, "folder"))?;
+    command.arg(option(alloc, "as", "text"))
+}
+
+fn report_in(alloc: Global, matches: &ArgMatches<'_>) -> Result<Command, WordsFault>
+    ensures ok { IfOk result (λ command. report_from (rows_of (found_of matches.now)) ≡ Some command) }
+    ensures usage { IfErr result (λ fault. fault ≡ WordsFault.Usage → report_from (rows_of (found_of matches.now)) ≡ None) }
+    ensures percents { IfOk result HasPercents }
+{
+    let folder = match value(alloc, matches, "folder") {
+        Ok(folder) => folder,
+        Err(fault) => return Err(fault),
+    };
+    let name = match value(alloc, matches, "as") {
+        Ok(name) => name,
+        Err(fault) => return Err(fault),
+    };
+    match form_of(name.as_text()) {
+        Ok(form) => Ok(Command::Report { folder, form }),
+        Err(fault) => Err(fault),
+    }
+}
+
+/// `report FOLDER --as FORM`, where the form is `json`, `lcov` or `text`, and `text` where it isn't given.
+pub fn read_report(alloc: Global, words: &[String]) -> Result<Command, WordsFault>
+    ensures ok { IfOk result (λ command. asked report_app report_from (map string_bytes words.now) ≡ Some command) }
+    ensures usage { IfErr result (λ fault. fault ≡ WordsFault.Usage → asked report_app report_from (map string_bytes words.now) ≡ None) }
+    ensures percents { IfOk result HasPercents }
+{
+    let Ok(command) = report_command(alloc) else {
+        return Err(WordsFault::NoMemory);
+    };
+    match parsed(command, words) {
+        Ok(matches) => report_in(alloc, &matches),
+        Err(fault) => Err(fault),
+    }
+}
+
+fn check_command<'a>(alloc: Global) -> Result<clap::Command<'a>, AllocError>
+    ensures { IfOk result (λ command. app_of command ≡ check_app) }
+{
+    let command = clap::Command::new(alloc, "check").arg(wanted(alloc, "folder"))?;
+    let command = command.arg(percent(alloc, "lines"))?;
+    let command = command.arg(percent(alloc, "branches"))?;
+    command.arg(percent(alloc, "functions"))
+}
+
+fn check_in(alloc: Global, matches: &ArgMatches<'_>) -> Result<Command, WordsFault>
+    ensures ok { IfOk result (λ command. check_from (rows_of (found_of matches.now)) ≡ Some command) }
+    ensures usage { IfErr result (λ fault. fault ≡ WordsFault.Usage → check_from (rows_of (found_of matches.now)) ≡ None) }
+    ensures percents { IfOk result HasPercents }
+{
+    let folder = match value(alloc, matches, "folder") {
+        Ok(folder) => folder,
+        Err(fault) => return Err(fault),
+    };
+    let lines = match percent_in(matches, "lines") {
+        Ok(lines) => lines,
+        Err(fault) => return Err(fault),
+    };
+    let branches = match percent_in(matches, "branches") {
+        Ok(branches) => branches,
+        Err(fault) => return Err(fault),
+    };
+    match percent_in(matches, "functions") {
+        Ok(functions) => Ok(Command::Check {
+            folder,
+            lines,
+            branches,
+            functions,
+        }),
+        Err(fault) => Err(fault),
+    }
+}
+
+/// `check FOLDER --lines N --branches N --functions N`, each from 0 to 100, and 0 where it isn't given.
+pub fn read_check(alloc: Global, words: &[String]) -> Result<Command, WordsFault>
+    ensures ok { IfOk result (λ command. asked check_app check_from (map string_bytes words.now) ≡ Some command) }
+    ensures usage { IfErr result (λ fault. fault ≡ WordsFault.Usage → asked check_app check_from (map string_bytes words.now) ≡ None) }
+    ensures percents { IfOk result HasPercents }
+{
+    let Ok(command) = check_command(alloc) else {
+        return Err(WordsFault::NoMemory);
+    };
+    match parsed(command, words) {
+        Ok(matches) => check_in(alloc, &matches),
+        Err(fault) => Err(fault),
+    }
+}
