@@ -1,12 +1,10 @@
 //! What `same` and `normal` answer.
+use crate::merging::FIRST;
 use crate::stage::{Given, function_text, gives, one, script_text, snapshot_text};
 use cov_commands::Ended;
 use std::alloc::{AllocError, Global};
 use std::process::Abort;
 use std::test::Fail;
-
-const FIRST: &str =
-    "{\"result\":[{\"functions\":[{\"functionName\":\"\",\"isBlockCoverage\":true,\"ranges\":[{\"count\":1,\"endOffset\":10,\"startOffset\":0}]}],\"scriptId\":\"0\",\"url\":\"file:///a.js\"}]}";
 
 const SAME: [&str; 3] = ["same", "cov", "more"];
 

@@ -1,4 +1,5 @@
 //! How a command ends where the words are none, a folder is absent, or a call of the outside fails.
+use crate::merging::FIRST;
 use crate::reporting::{TWO_LINES, TWO_LINES_REPORT, TWO_LINES_TABLE, TWO_LINES_TRACE};
 use crate::stage::{GivenFile, gives, one, sink_of, store_of, text_of, words_of};
 use cov_commands::{Ended, run_tool};
@@ -213,12 +214,10 @@ fn each_ends<R: Abort + AllocGlobal>(rt: &R, run: &Run<'_>) -> Result<(), Fail> 
 
 #[test]
 fn each_failing_call_ends_the_command(rt: HostRuntime) -> Result<(), Fail> {
-    let good = one(rt.alloc(), &[(0, 10, 1)])?;
-    let good = good.as_str();
     let merge = Run {
         words: &["merge", "cov"],
-        files: &[("cov/a.json", good), ("cov/b.json", "[")],
-        out: good,
+        files: &[("cov/a.json", FIRST), ("cov/b.json", "[")],
+        out: FIRST,
         err: "refused cov/b.json: syntax\n",
         ended: Ended::SomeRefused,
         calls: 3,
@@ -227,9 +226,9 @@ fn each_failing_call_ends_the_command(rt: HostRuntime) -> Result<(), Fail> {
     let same = Run {
         words: &["same", "cov", "more"],
         files: &[
-            ("cov/a.json", good),
+            ("cov/a.json", FIRST),
             ("cov/b.json", "["),
-            ("more/a.json", good),
+            ("more/a.json", FIRST),
         ],
         out: "same\n",
         err: "refused cov/b.json: syntax\n",

@@ -110,10 +110,9 @@ fn mapped_scripts_are_reported_on_their_sources(rt: HostRuntime) -> Result<(), F
     let text = format!(in alloc; "{BEFORE_MAPPINGS}AAAA;AAEA{BEHIND_MAPPINGS}")?;
     let files = [("cov/a.json", text.as_str())];
     let line = "skipped node:fs: not a file\n";
-    for (form, out) in [("lcov", MAPPED_TRACE), ("json", MAPPED_JSON)] {
-        reports(&rt, form, files.as_slice(), out, line, Ended::Done)?;
-    }
-    Ok(())
+    let files = files.as_slice();
+    reports(&rt, "lcov", files, MAPPED_TRACE, line, Ended::Done)?;
+    reports(&rt, "json", files, MAPPED_JSON, line, Ended::Done)
 }
 
 #[test]
