@@ -10,8 +10,6 @@ mod laws;
 mod lines;
 mod making;
 mod maps;
-#[cfg(test)]
-mod tests;
 mod texts;
 
 pub use answer::{Report, ReportFault, Skip, SkipCause};
