@@ -15,7 +15,8 @@ use Rattle.cov_model.specs.declared.sums.At.TheVariants.{Root, Offset}
 use Rattle.cov_model.specs.declared.sums.SumFault.{SumFault}
 use Rattle.cov_text.specs.Listing.{inserted, counted, offsets, text_cmp, same_text}
 use Rattle.cov_model.specs.Nesting.{inner_count}
-use Rattle.cov_model.specs.Sums.{fits, sum_fault, sums, sum_at, passes_limit, limit, points, urls, keys, urls_in_order, keys_in_order, file_order, key_of, same_key, is_of, reports, root, total, flag, root_count}
+use Rattle.cov_text.specs.Listing.{limit}
+use Rattle.cov_model.specs.Sums.{fits, sum_fault, sums, sum_at, passes_limit, points, urls, keys, urls_in_order, keys_in_order, file_order, key_of, same_key, is_of, reports, root, total, flag, root_count}
 use Rattle.cov_model.specs.Normal.{grown, runs_over, maximal_runs, flat, range}
 use Rattle.cov_model.specs.File.{merged_report, merged_entry, scripts, file}
 use Rattle.cov_model.specs.Held.{FunctionSums, Held, sums_of, held_of}

@@ -9,7 +9,8 @@ use Rattle.cov_model.specs.declared.snapshot.Entry.{Entry}
 use Rattle.cov_model.specs.declared.snapshot.Snapshot.{Snapshot}
 use Rattle.cov_model.specs.declared.sums.Key.{Key}
 use Rattle.cov_text.specs.Listing.{text_cmp, same_text}
-use Rattle.cov_model.specs.Sums.{limit, root, root_count, urls, urls_in_order, keys_in_order, same_key}
+use Rattle.cov_text.specs.Listing.{limit}
+use Rattle.cov_model.specs.Sums.{root, root_count, urls, urls_in_order, keys_in_order, same_key}
 use Rattle.cov_model.specs.File.{merged_report, merged_entry, scripts}
 use Rattle.cov_book.specs.Counts.{capped}
 use Rattle.cov_book.specs.Numbers.{range_count, kept, numbers_of, with_report, with_reports, one_more, with_scripts, nothing}

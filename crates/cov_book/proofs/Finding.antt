@@ -18,7 +18,8 @@ use Rattle.cov_model.specs.declared.sums.At.TheVariants.{Root, Offset}
 use Rattle.cov_model.specs.declared.sums.SumFault.{SumFault}
 use Rattle.cov_text.specs.Listing.{inserted, counted, offsets}
 use Rattle.cov_model.specs.Nesting.{or_else}
-use Rattle.cov_model.specs.Sums.{fits, sum_at, sum_fault, passes_limit, limit, points, keys, keys_in_order, file_order, key_of, is_of, reports, root, total}
+use Rattle.cov_text.specs.Listing.{limit}
+use Rattle.cov_model.specs.Sums.{fits, sum_at, sum_fault, passes_limit, points, keys, keys_in_order, file_order, key_of, is_of, reports, root, total}
 use Rattle.cov_model.proofs.Grows.{fits-each, sum_at-append}
 use Rattle.cov_book.specs.Counts.{capped, weight, reports_in, passes, first_point, first_sum, fault_with, with_script, with_scripts}
 

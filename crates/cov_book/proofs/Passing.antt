@@ -20,7 +20,8 @@ use Rattle.cov_model.specs.declared.sums.At.TheVariants.{Root, Offset}
 use Rattle.cov_model.specs.declared.sums.SumFault.{SumFault}
 use Rattle.cov_text.specs.Listing.{counted, offsets}
 use Rattle.cov_model.specs.Nesting.{or_else}
-use Rattle.cov_model.specs.Sums.{limit, fits, sum_at, sum_fault, points, root, total, reports, key_of, keys, keys_in_order, file_order, same_key}
+use Rattle.cov_text.specs.Listing.{limit}
+use Rattle.cov_model.specs.Sums.{fits, sum_at, sum_fault, points, root, total, reports, key_of, keys, keys_in_order, file_order, same_key}
 use Rattle.cov_model.proofs.Fits.{joins_where_it_fits}
 use Rattle.cov_model.proofs.Grows.{fits-each}
 use Rattle.cov_steps.proofs.Maximal.{count_in-maximal}

@@ -12,7 +12,8 @@ use Rattle.cov_model.specs.declared.report.Range.{Range}
 use Rattle.cov_model.specs.declared.sums.Key.{Key}
 use Rattle.cov_text.specs.Listing.{last_of}
 use Rattle.cov_model.specs.Nesting.{inner, inner_count, around, is_shortest}
-use Rattle.cov_model.specs.Sums.{limit, file_order}
+use Rattle.cov_text.specs.Listing.{limit}
+use Rattle.cov_model.specs.Sums.{file_order}
 use Rattle.cov_steps.specs.Runs.{RunList, count_in, counted, sum_of, sum_at, Fits, IsFirstPast}
 use Rattle.cov_steps.proofs.Maximal.{count_in-maximal}
 use Rattle.cov_book.specs.declared.sums.Sums.{Sums}

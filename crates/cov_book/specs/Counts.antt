@@ -9,7 +9,8 @@ use Rattle.cov_model.specs.declared.sums.At.TheVariants.{Root, Offset}
 use Rattle.cov_text.specs.Listing.{inserted}
 use Rattle.cov_model.specs.declared.sums.SumFault.{SumFault}
 use Rattle.cov_model.specs.Nesting.{inner_count, or_else}
-use Rattle.cov_model.specs.Sums.{limit, root_count, is_of, reports, key_of, points, file_order}
+use Rattle.cov_text.specs.Listing.{limit}
+use Rattle.cov_model.specs.Sums.{root_count, is_of, reports, key_of, points, file_order}
 
 abbrev pub capped : ℕ → ℕ
 capped n = min n (2 ^ 128 - 1)

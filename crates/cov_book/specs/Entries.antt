@@ -15,7 +15,8 @@ use Rattle.cov_model.specs.Nesting.{AreNested}
 use Rattle.cov_model.specs.declared.sums.At.{At}
 use Rattle.cov_model.specs.declared.sums.At.TheVariants.{Root, Offset}
 use Rattle.cov_model.specs.Normal.{maximal_runs, flat}
-use Rattle.cov_model.specs.Sums.{limit, fits, urls_in_order, root, total, flag, root_count, key_of, file_order, keys_in_order}
+use Rattle.cov_text.specs.Listing.{limit}
+use Rattle.cov_model.specs.Sums.{fits, urls_in_order, root, total, flag, root_count, key_of, file_order, keys_in_order}
 use Rattle.cov_model.specs.Held.{FunctionSums}
 use Rattle.cov_steps.specs.Runs.{count_in, counted, sum_of}
 use Rattle.cov_book.specs.Counts.{weight}

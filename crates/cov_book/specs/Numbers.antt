@@ -5,7 +5,8 @@ use Rattle.cov_model.specs.declared.snapshot.Entry.{Entry}
 use Rattle.cov_model.specs.declared.snapshot.Snapshot.{Snapshot}
 use Rattle.cov_model.specs.declared.sums.Key.{Key}
 use Rattle.cov_model.specs.Normal.{normal_list}
-use Rattle.cov_model.specs.Sums.{limit, root, total, root_count, urls_in_order, keys_in_order}
+use Rattle.cov_text.specs.Listing.{limit}
+use Rattle.cov_model.specs.Sums.{root, total, root_count, urls_in_order, keys_in_order}
 use Rattle.cov_book.specs.Counts.{capped}
 use Rattle.cov_book.specs.declared.numbers.Numbers.{Numbers}
 

@@ -2,7 +2,7 @@
 ghost use Rattle.std.specs.Prelude.{◌≡◌, ◌+◌, ◌≤◌, None, IfOk, IfErr, OnOk, length};
 ghost use Rattle.std.specs.List.{AllByRecursion};
 ghost use Rattle.cov_model.specs.Nesting.{range_fault};
-ghost use Rattle.cov_model.specs.Sums.{limit};
+ghost use Rattle.cov_text.specs.Listing.{limit};
 ghost use Rattle.cov_book.specs.Entries.{report_sums, sum_two, IsWithin, IfPast};
 
 use cov_model::{FunctionReport, Range, Steps};

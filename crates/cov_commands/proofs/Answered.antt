@@ -11,7 +11,8 @@ use Rattle.cov_model.specs.File.{file}
 use Rattle.cov_model.specs.Files.{IsNormalFile, IsNormalFileOf}
 use Rattle.cov_model.specs.Held.{Held, held_of}
 use Rattle.cov_model.specs.Outcome.{Reading, accepted, answers}
-use Rattle.cov_model.specs.Reading.{reading, or_fault, parsed, shaped, snapshot_of, ◌>>=◌}
+use Rattle.json_shapes.specs.Shapes.{or_fault, parsed, ◌>>=◌}
+use Rattle.cov_model.specs.Reading.{reading, shaped, snapshot_of}
 use Rattle.cov_io.specs.Told.{Files, bytes_at, names_in}
 use Rattle.cov_book.specs.declared.book.Book.{Book}
 use Rattle.cov_book.specs.Stands.{StandsFor}

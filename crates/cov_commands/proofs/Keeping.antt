@@ -8,9 +8,11 @@ use Rattle.cov_model.specs.declared.snapshot.Snapshot.{Snapshot}
 use Rattle.cov_model.specs.declared.sums.Answer.{Answer}
 use Rattle.cov_model.specs.declared.sums.Answer.TheVariants.{Taken, Bad, Past}
 use Rattle.cov_model.specs.declared.snapshot.TextFault.TheVariants.{TooLong, Syntax}
-use Rattle.cov_model.specs.Reading.{reading, or_fault, parsed, ◌>>=◌}
+use Rattle.json_shapes.specs.Shapes.{or_fault, parsed, ◌>>=◌}
+use Rattle.cov_model.specs.Reading.{reading}
 use Rattle.cov_model.specs.Outcome.{accepted, answers, answer_to}
-use Rattle.source_maps.specs.Entries.{Said, said, entries_of, maps_reading}
+use Rattle.cov_files.specs.Maps.{maps_reading}
+use Rattle.source_maps.specs.Entries.{Said, said, entries_of}
 use Rattle.cov_report.specs.Texts.{entries_if_taken, entries_of_taken, entries_or_none}
 use Rattle.cov_io.specs.Told.{Files, path_in}
 use Rattle.cov_book.specs.declared.book.Book.{Book}

@@ -11,7 +11,8 @@ use Rattle.cov_model.specs.declared.snapshot.Snapshot.{Snapshot}
 use Rattle.cov_model.specs.declared.sums.Answer.{Answer}
 use Rattle.cov_model.specs.declared.snapshot.TextFault.TheVariants.{TooLong, Syntax}
 use Rattle.cov_text.specs.Listing.{max_text}
-use Rattle.cov_model.specs.Reading.{reading, or_fault, parsed, shaped, snapshot_of, ◌>>=◌}
+use Rattle.json_shapes.specs.Shapes.{or_fault, parsed, ◌>>=◌}
+use Rattle.cov_model.specs.Reading.{reading, shaped, snapshot_of}
 use Rattle.cov_model.specs.Outcome.{Reading, accepted, accepted_over, answers, answers_over, after, answer_to}
 use Rattle.cov_io.specs.Told.{Files, path_in}
 use Rattle.cov_book.specs.declared.book.Book.{Book}

@@ -6,7 +6,8 @@ use Rattle.serde_json.specs.Written.{has_float, items_have_float}
 use Rattle.cov_model.specs.declared.report.Range.{Range}
 use Rattle.cov_model.specs.declared.report.FunctionReport.{FunctionReport}
 use Rattle.cov_model.specs.declared.snapshot.Entry.{Entry}
-use Rattle.cov_model.specs.File.{array_of, range_data, report_data, entry_data, entries_data, scripts_data, result_data}
+use Rattle.json_shapes.specs.Shapes.{array_of}
+use Rattle.cov_model.specs.File.{range_data, report_data, entry_data, entries_data, scripts_data, result_data}
 
 none-array : {A : Type 0} (data_of : A → Data) → ((x : A) → has_float (data_of x) ≡ false) → (xs : List A) → items_have_float (array_of data_of xs) ≡ false
 none-array data_of none [] = refl

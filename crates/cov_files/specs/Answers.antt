@@ -3,7 +3,7 @@ use Rattle.std.specs.Prelude.{◌≡◌, ◌<◌, ◌≤◌, ℕ, List, length, 
 use Rattle.serde_json.specs.Data.{Data}
 use Rattle.cov_text.specs.Listing.{max_text}
 use Rattle.cov_model.specs.Gives.{TextFails}
-use Rattle.cov_model.specs.Reading.{parsed}
+use Rattle.json_shapes.specs.Shapes.{parsed}
 use Rattle.cov_model.specs.declared.snapshot.TextFault.{TextFault}
 use Rattle.cov_model.specs.declared.snapshot.TextFault.TheVariants.{TooLong, Syntax, Shape, NoMemory}
 use Rattle.source_maps.specs.declared.entries.MapEntry.{MapEntry}

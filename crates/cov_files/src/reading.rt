@@ -4,10 +4,12 @@ ghost use Rattle.serde_json.specs.View.{view};
 ghost use Rattle.cov_model.specs.Gives.{GivesText, TextFails};
 ghost use Rattle.cov_model.specs.Reading as spec;
 ghost use Rattle.source_maps.specs.Entries as entries;
+ghost use Rattle.cov_files.specs.Maps.{maps_reading};
 ghost use Rattle.cov_files.specs.Answers.{GivesValue, GivesEntries};
 
 use cov_messages::snapshot_of;
-use cov_model::{Items, MAX_TEXT, ShapeFault, Snapshot, TextFault};
+use cov_model::{Items, ShapeFault, Snapshot, TextFault};
+use json_shapes::{ParseFault, parse};
 use serde_json::Value;
 use source_maps::{MapEntry, entries_of};
 use std::alloc::Global;
@@ -24,9 +26,9 @@ pub fn read_snapshot(alloc: Global, bytes: &[u8]) -> Result<Snapshot, TextFault>
 
 /// What a text says of the maps of its scripts, in byte order of their urls: see [`entries_of`]. `TooLong` comes exactly
 /// past 134,217,728 bytes, `Syntax` exactly where shorter bytes are no JSON text, and `Shape` never.
-#[tactic(auto, unfolding(source_maps::specs::Entries::maps_reading))]
+#[tactic(auto, unfolding(crate::specs::Maps::maps_reading))]
 pub fn maps_of(alloc: Global, bytes: &[u8]) -> Result<Items<MapEntry>, TextFault>
-    ensures { GivesEntries result (entries.maps_reading bytes.now) }
+    ensures { GivesEntries result (maps_reading bytes.now) }
 {
     let value = value_of(alloc, bytes)?;
     entries_in(alloc, &value)
@@ -34,10 +36,10 @@ pub fn maps_of(alloc: Global, bytes: &[u8]) -> Result<Items<MapEntry>, TextFault
 
 /// The snapshot that a text is, with what the text says of the maps of its scripts: what [`read_snapshot`] and
 /// [`maps_of`] answer, for one reading of the text. The faults are those of [`read_snapshot`].
-#[tactic(auto, unfolding(cov_model::specs::Reading::reading, source_maps::specs::Entries::maps_reading))]
+#[tactic(auto, unfolding(cov_model::specs::Reading::reading, crate::specs::Maps::maps_reading))]
 pub fn read_text(alloc: Global, bytes: &[u8]) -> Result<(Snapshot, Items<MapEntry>), TextFault>
     ensures snapshot { IfOk result (λ both. spec.reading bytes.now ≡ Ok both.0) }
-    ensures maps { IfOk result (λ both. entries.maps_reading bytes.now ≡ Ok (map entries.said both.1)) }
+    ensures maps { IfOk result (λ both. maps_reading bytes.now ≡ Ok (map entries.said both.1)) }
     ensures fails { IfErr result (λ fault. TextFails fault (spec.reading bytes.now)) }
 {
     let value = value_of(alloc, bytes)?;
@@ -50,13 +52,11 @@ pub fn read_text(alloc: Global, bytes: &[u8]) -> Result<(Snapshot, Items<MapEntr
 fn value_of(alloc: Global, bytes: &[u8]) -> Result<Value, TextFault>
     ensures { GivesValue view result bytes.now }
 {
-    if bytes.len() > MAX_TEXT {
-        return Err(TextFault::TooLong);
-    }
-    match Value::from_slice(alloc, bytes) {
+    match parse(alloc, bytes) {
         Ok(value) => Ok(value),
-        Err(error) if error.is_memory() => Err(TextFault::NoMemory),
-        Err(_) => Err(TextFault::Syntax),
+        Err(ParseFault::TooLong) => Err(TextFault::TooLong),
+        Err(ParseFault::Syntax) => Err(TextFault::Syntax),
+        Err(ParseFault::NoMemory) => Err(TextFault::NoMemory),
     }
 }
 

@@ -18,7 +18,8 @@ use Rattle.cov_model.specs.declared.snapshot.ShapeFault.{ShapeFault}
 use Rattle.cov_model.specs.declared.snapshot.ShapeFault.TheVariants.{Missing, Wrong}
 use Rattle.cov_model.specs.declared.snapshot.TextFault.TheVariants.{TooLong, Syntax}
 use Rattle.cov_model.specs.Nesting.{range_fault}
-use Rattle.cov_model.specs.Reading.{◌>>=◌, or_fault, nowhere, at_script, at_function, at_range, taken_as, member_as, whole, offset_of, each_item, range_of, nested_or_fault, report_of, entry_of, snapshot_of, shaped, parsed, reading}
+use Rattle.json_shapes.specs.Shapes.{◌>>=◌, or_fault, whole, offset_of, parsed}
+use Rattle.cov_model.specs.Reading.{nowhere, at_script, at_function, at_range, taken_as, member_as, each_item, range_of, nested_or_fault, report_of, entry_of, snapshot_of, shaped, reading}
 use Rattle.cov_laws.specs.Laws.{HasOffsets}
 
 is-ok : {A E : Type 0} (a b : A) → ◌≡◌ {A = Result A E} (Ok a) (Ok b) → a ≡ b

@@ -14,7 +14,8 @@ use Rattle.cov_model.specs.declared.snapshot.Snapshot.{Snapshot}
 use Rattle.cov_model.specs.declared.sums.Key.{Key}
 use Rattle.cov_model.specs.declared.sums.At.TheVariants.{Offset}
 use Rattle.cov_text.specs.Listing.{first_of, inserted, counted, offsets, same_text}
-use Rattle.cov_model.specs.Sums.{fits, sum_at, limit, root, total, keys, keys_in_order, urls_in_order, file_order, key_of}
+use Rattle.cov_text.specs.Listing.{limit}
+use Rattle.cov_model.specs.Sums.{fits, sum_at, root, total, keys, keys_in_order, urls_in_order, file_order, key_of}
 use Rattle.cov_model.specs.Normal.{range, grown, runs_over, maximal_runs, flat}
 use Rattle.cov_model.specs.File.{merged_report, merged_entry, scripts}
 use Rattle.cov_model.proofs.Grows.{fits-each}

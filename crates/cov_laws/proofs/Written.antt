@@ -16,7 +16,8 @@ use Rattle.serde_json.proofs.Numbers.{number_of-decimal}
 use Rattle.cov_model.specs.declared.report.Range.{Range}
 use Rattle.cov_model.specs.declared.report.FunctionReport.{FunctionReport}
 use Rattle.cov_model.specs.declared.snapshot.Entry.{Entry}
-use Rattle.cov_model.specs.File.{array_of, range_data, report_data, entry_data, entries_data, scripts_data, result_data}
+use Rattle.json_shapes.specs.Shapes.{array_of}
+use Rattle.cov_model.specs.File.{range_data, report_data, entry_data, entries_data, scripts_data, result_data}
 
 -- ---- a text tells its value
 

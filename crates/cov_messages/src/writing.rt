@@ -2,7 +2,8 @@
 ghost use Rattle.std.specs.Prelude.{◌≡◌, IfOk, string_bytes, decimal};
 ghost use Rattle.serde_json.specs.Data.{Data, array};
 ghost use Rattle.serde_json.specs.View.{view};
-ghost use Rattle.cov_model.specs.File.{array_of, range_data, report_data, entry_data, scripts_data};
+ghost use Rattle.json_shapes.specs.Shapes.{array_of};
+ghost use Rattle.cov_model.specs.File.{range_data, report_data, entry_data, scripts_data};
 
 use cov_model::{Entry, FunctionReport, Range, Snapshot};
 use serde_json::{Value, json};

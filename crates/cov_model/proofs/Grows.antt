@@ -20,7 +20,8 @@ use Rattle.cov_model.specs.declared.sums.At.{At}
 use Rattle.cov_model.specs.declared.sums.At.TheVariants.{Root, Offset}
 use Rattle.cov_text.specs.Listing.{text_cmp, same_text, inserted}
 use Rattle.cov_model.specs.Nesting.{inner_count}
-use Rattle.cov_model.specs.Sums.{fits, sum_at, limit, points, keys, keys_in_order, file_order, key_of, same_key, is_of, reports, root, total, root_count}
+use Rattle.cov_text.specs.Listing.{limit}
+use Rattle.cov_model.specs.Sums.{fits, sum_at, points, keys, keys_in_order, file_order, key_of, same_key, is_of, reports, root, total, root_count}
 use Rattle.cov_model.specs.Laws.{StaysPast}
 
 -- ---- tests over lists

@@ -10,7 +10,8 @@ use Rattle.cov_model.specs.declared.sums.Key.{Key}
 use Rattle.cov_model.specs.declared.sums.At.TheVariants.{Root}
 use Rattle.cov_model.specs.declared.sums.Answer.TheVariants.{Taken, Past}
 use Rattle.cov_model.specs.Nesting.{range_fault}
-use Rattle.cov_model.specs.Sums.{root, total, limit}
+use Rattle.cov_text.specs.Listing.{limit}
+use Rattle.cov_model.specs.Sums.{root, total}
 use Rattle.cov_model.specs.Normal.{range, is_flat}
 use Rattle.cov_model.specs.Nested.{nested}
 use Rattle.cov_model.specs.File.{scripts, file}

@@ -7,6 +7,7 @@ use Rattle.cov_model.specs.declared.report.FunctionReport.{FunctionReport}
 use Rattle.cov_model.specs.declared.snapshot.Snapshot.{Snapshot}
 use Rattle.cov_model.specs.declared.snapshot.Entry.{Entry}
 use Rattle.cov_model.specs.declared.sums.Key.{Key}
+use Rattle.json_shapes.specs.Shapes.{array_of}
 use Rattle.cov_text.specs.Listing.{same_text}
 use Rattle.cov_model.specs.Sums.{root, total, flag, urls_in_order, keys_in_order}
 use Rattle.cov_model.specs.Normal.{normal_list}
@@ -27,10 +28,6 @@ unfoldable pub scripts : List Snapshot → Snapshot
 scripts snapshots = map (merged_entry snapshots) (urls_in_order snapshots)
 
 -- ---- their JSON: members in byte order of their names
-
-abbrev pub array_of : {A : Type 0} → (A → Data) → List A → Items
-array_of data_of [] = no_items
-array_of data_of (x ∷ xs) = item (data_of x) (array_of data_of xs)
 
 abbrev pub range_data : Range → Data
 range_data r = object (member (codes "count") (number (unsigned r.count)) (member (codes "endOffset") (number (unsigned r.end)) (member (codes "startOffset") (number (unsigned r.start)) no_members)))

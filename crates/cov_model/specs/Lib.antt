@@ -6,7 +6,6 @@ pub mod File
 pub mod Reading
 pub mod Files
 pub mod Held
-pub mod Members
 pub mod Gives
 pub mod Outcome
 pub mod Laws

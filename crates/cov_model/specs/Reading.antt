@@ -1,9 +1,7 @@
 -- The snapshot that a text is, or its first fault.
-use Rattle.std.specs.Prelude.{ℕ, suc, ◌^◌, List, [], ◌∷◌, length, nat_lt, if◌then◌else◌, Option, None, Some, option_and_then, Result, Ok, Err, codes}
-use Rattle.std.specs.Str.{is_utf8}
+use Rattle.std.specs.Prelude.{ℕ, suc, List, [], ◌∷◌, length, nat_lt, if◌then◌else◌, Option, None, Some, Result, Ok, Err, codes}
 use Rattle.serde_json.specs.Data.{Data, Items, no_items, item}
-use Rattle.serde_json.specs.Read.{read}
-use Rattle.serde_json.specs.Find.{get, as_bool, as_number, as_str, as_array, as_object, as_u64}
+use Rattle.serde_json.specs.Find.{get, as_bool, as_str, as_array, as_object}
 use Rattle.cov_model.specs.declared.report.Range.{Range}
 use Rattle.cov_model.specs.declared.report.FunctionReport.{FunctionReport}
 use Rattle.cov_model.specs.declared.report.RangeFault.{RangeFault}
@@ -16,19 +14,9 @@ use Rattle.cov_model.specs.declared.snapshot.ShapeFault.{ShapeFault}
 use Rattle.cov_model.specs.declared.snapshot.ShapeFault.TheVariants.{Missing, Wrong, Ranges}
 use Rattle.cov_model.specs.declared.snapshot.TextFault.{TextFault}
 use Rattle.cov_model.specs.declared.snapshot.TextFault.TheVariants.{TooLong, Syntax, Shape}
+use Rattle.json_shapes.specs.Shapes.{◌>>=◌, or_fault, parsed, whole, offset_of}
 use Rattle.cov_text.specs.Listing.{max_text}
 use Rattle.cov_model.specs.Nesting.{range_fault}
-
--- A step that fails ends the reading.
-infixl 10 ◌>>=◌
-abbrev pub ◌>>=◌ : {A B E : Type 0} → Result A E → (A → Result B E) → Result B E
-(Ok x) >>= f = f x
-(Err e) >>= f = Err e
-
--- what is there, or else the fault
-abbrev pub or_fault : {A E : Type 0} → E → Option A → Result A E
-or_fault e None = Err e
-or_fault e (Some x) = Ok x
 
 -- ---- places, each number from 0
 
@@ -53,13 +41,6 @@ taken_as kind place name d = or_fault (Wrong place name) (kind d)
 -- the member of this key, of this kind: it is missing, or wrong, or there
 abbrev pub member_as : {A : Type 0} → (Data → Option A) → Place → field.Field → List ℕ → Data → Result A ShapeFault
 member_as kind place name key d = or_fault (Missing place name) (get key d) >>= taken_as kind place name
-
-abbrev pub whole : Data → Option ℕ
-whole d = option_and_then as_u64 (as_number d)
-
--- a whole number of at most 32 bits
-abbrev pub offset_of : Data → Option ℕ
-offset_of d = option_and_then (λ n. if nat_lt n (2 ^ 32) then Some n else None) (whole d)
 
 -- each item by what reads it, with its place, in order
 abbrev pub each_item : {A : Type 0} → (ℕ → Data → Result A ShapeFault) → ℕ → Items → Result (List A) ShapeFault
@@ -107,10 +88,6 @@ snapshot_of d = do
 abbrev pub shaped : Result Snapshot ShapeFault → Result Snapshot TextFault
 shaped (Ok snapshot) = Ok snapshot
 shaped (Err fault) = Err (Shape fault)
-
--- the JSON value of a text
-abbrev pub parsed : List ℕ → Option Data
-parsed bytes = if is_utf8 bytes then read bytes else None
 
 -- the snapshot that a text is, or its first fault
 unfoldable pub reading : List ℕ → Result Snapshot TextFault

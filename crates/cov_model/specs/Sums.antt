@@ -10,12 +10,8 @@ use Rattle.cov_model.specs.declared.sums.Key.{Key}
 use Rattle.cov_model.specs.declared.sums.At.{At}
 use Rattle.cov_model.specs.declared.sums.At.TheVariants.{Root, Offset}
 use Rattle.cov_model.specs.declared.sums.SumFault.{SumFault}
-use Rattle.cov_text.specs.Listing.{first_of, offsets, same_text, text_cmp, in_order}
+use Rattle.cov_text.specs.Listing.{limit, first_of, offsets, same_text, text_cmp, in_order}
 use Rattle.cov_model.specs.Nesting.{inner_count}
-
--- the greatest count and the greatest sum
-abbrev pub limit : ℕ
-limit = 2 ^ 64 - 1
 
 -- what names the report of a script
 abbrev pub key_of : List ℕ → FunctionReport → Option Key

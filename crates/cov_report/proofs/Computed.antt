@@ -10,7 +10,7 @@ use Rattle.utf16_lines.specs.Lines.{units, lines, table_of, table_of_lengths}
 use Rattle.vlq_mappings.specs.Mappings.{mappings}
 use Rattle.source_maps.specs.At.{segment_at}
 use Rattle.source_maps.specs.Maps.{map_of}
-use Rattle.source_maps.specs.Entries.{maps_reading}
+use Rattle.cov_files.specs.Maps.{maps_reading}
 use Rattle.source_remap.specs.Paths.{path_of, source_path}
 use Rattle.source_remap.specs.Origins.{anchors, original_span}
 use Rattle.istanbul_rules.specs.Ignored.{ignored}

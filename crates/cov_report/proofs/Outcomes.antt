@@ -12,7 +12,7 @@ use Rattle.std.proofs.lemmas.List.{append-nil, append_assoc, map-append}
 use Rattle.std.proofs.lemmas.List.Elements.{filter_map-append, filter-append}
 use Rattle.std.proofs.lemmas.Slice.Eq.{bytes_eq-Decides}
 use Rattle.cov_text.specs.Listing.{first_of, same_text, text_cmp}
-use Rattle.cov_model.specs.Reading.{◌>>=◌}
+use Rattle.json_shapes.specs.Shapes.{◌>>=◌}
 use Rattle.cov_io.specs.Told.{Files}
 use Rattle.utf16_lines.specs.Lines.{table_of}
 use Rattle.cov_book.proofs.Ordered.{text_total, text_exact}

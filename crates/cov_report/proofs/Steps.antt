@@ -4,7 +4,7 @@ use Rattle.std.specs.Prelude.{cond, Option, None, Some, is_some, option_map, Res
 use Rattle.std.specs.BTreeMap.{BTreeMap, get, is_at}
 use Rattle.std.proofs.lemmas.Bool.{cases_Bool}
 use Rattle.cov_text.specs.Listing.{same_text, text_cmp}
-use Rattle.cov_model.specs.Reading.{◌>>=◌, or_fault}
+use Rattle.json_shapes.specs.Shapes.{◌>>=◌, or_fault}
 use Rattle.cov_io.specs.Told.{Files}
 use Rattle.utf16_lines.specs.Lines.{table_of}
 use Rattle.istanbul_rules.specs.declared.part.Part.{Part}

@@ -6,7 +6,7 @@ use Rattle.std.proofs.lemmas.Bool.{lt-ltb, cases_lt}
 use Rattle.std.proofs.lemmas.Str.{is_utf8-from_IsUtf8, IsUtf8-from_is_utf8}
 use Rattle.std.proofs.lemmas.List.{length-take-le, take_all}
 use Rattle.cov_text.specs.Listing.{max_text}
-use Rattle.cov_model.specs.Reading.{◌>>=◌, or_fault}
+use Rattle.json_shapes.specs.Shapes.{◌>>=◌, or_fault}
 use Rattle.cov_report.specs.declared.answer.SkipCause.{SkipCause}
 use Rattle.cov_report.specs.declared.answer.SkipCause.TheVariants.{NotFile, Absent, TooLong, NotUtf8, BadMap}
 use Rattle.cov_report.specs.Wanted.{short_text, utf8_text, text_in}

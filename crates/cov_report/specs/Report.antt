@@ -2,7 +2,7 @@
 use Rattle.std.specs.Prelude.{ℕ, List, [], ◌∷◌, ◌++◌, map, if◌then◌else◌, Option, None, Some, option_map, unwrap_or, Result, Ok, Err, filter, filter_map}
 use Rattle.cov_text.specs.Listing.{first_of, same_text, text_cmp, in_order}
 use Rattle.cov_model.specs.declared.snapshot.Snapshot.{Snapshot}
-use Rattle.cov_model.specs.Reading.{◌>>=◌}
+use Rattle.json_shapes.specs.Shapes.{◌>>=◌}
 use Rattle.cov_model.specs.File.{scripts}
 use Rattle.cov_io.specs.Told.{Files}
 use Rattle.utf16_lines.specs.Lines.{table_of}

@@ -2,7 +2,7 @@
 use Rattle.std.specs.Prelude.{◌≡◌, ◌≤◌, ℕ, true, List, [], ◌∷◌, ◌++◌, length, ◌==◌, Option, None, Some, Result, Ok, Err}
 use Rattle.std.specs.List.{list_all}
 use Rattle.cov_text.specs.Listing.{max_text}
-use Rattle.cov_model.specs.Reading.{◌>>=◌}
+use Rattle.json_shapes.specs.Shapes.{◌>>=◌}
 use Rattle.utf16_lines.specs.Table.{Table}
 use Rattle.utf16_lines.specs.Lines.{lines, table_of}
 use Rattle.istanbul_rules.specs.declared.part.Part.{Part}

@@ -7,7 +7,8 @@ use Rattle.cov_model.specs.declared.sums.Answer.TheVariants.{Taken, Bad, Past}
 use Rattle.cov_model.specs.Reading.{reading}
 use Rattle.cov_model.specs.Outcome.{accepted, answers}
 use Rattle.cov_io.specs.Told.{Files}
-use Rattle.source_maps.specs.Entries.{Said, maps_reading}
+use Rattle.cov_files.specs.Maps.{maps_reading}
+use Rattle.source_maps.specs.Entries.{Said}
 use Rattle.cov_report.specs.declared.answer.SkipCause.{SkipCause}
 use Rattle.cov_report.specs.declared.answer.SkipCause.TheVariants.{NotFile, Absent, TooLong, NotUtf8, BadMap}
 use Rattle.cov_report.specs.declared.answer.Skip.{Skip}

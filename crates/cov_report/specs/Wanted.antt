@@ -4,7 +4,7 @@ use Rattle.std.specs.List.{enumerate_from}
 use Rattle.std.specs.Str.{is_utf8}
 use Rattle.cov_text.specs.Listing.{same_text, max_text}
 use Rattle.cov_model.specs.declared.snapshot.Entry.{Entry}
-use Rattle.cov_model.specs.Reading.{or_fault, ◌>>=◌}
+use Rattle.json_shapes.specs.Shapes.{or_fault, ◌>>=◌}
 use Rattle.cov_io.specs.Told.{Files, bytes_at}
 use Rattle.utf16_lines.specs.Table.{Table}
 use Rattle.utf16_lines.specs.Lines.{table_of_lengths}

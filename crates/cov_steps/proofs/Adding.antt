@@ -1,7 +1,7 @@
 -- The laws of runs and their sums.
 use Rattle.std.proofs.Common.{◌≡◌, ℕ, ◌+◌, ◌<◌, ◌≤◌, refl, sym, ap, ◌∙◌, subst, arith}
 use Rattle.cov_model.specs.Normal.{maximal_runs}
-use Rattle.cov_model.specs.Sums.{limit}
+use Rattle.cov_text.specs.Listing.{limit}
 use Rattle.cov_steps.specs.Runs.{RunList, count_in, sum_at, sum_of, Fits}
 use Rattle.cov_steps.specs.Laws.{CountsDetermineRuns, SumsCount, SumsCommute, SumsAssociate}
 use Rattle.cov_steps.proofs.Maximal.{maximal_runs-counts, maximal_runs-same, AreRuns-maximal, count_in-maximal}

@@ -5,7 +5,7 @@ use Rattle.std.proofs.lemmas.Bool.{cases_lt}
 use Rattle.std.proofs.lemmas.Option.{slice_get_within, get_or_from_slice_get}
 use Rattle.cov_model.specs.declared.report.Range.{Range}
 use Rattle.cov_model.specs.Normal.{range, maximal_runs}
-use Rattle.cov_model.specs.Sums.{limit}
+use Rattle.cov_text.specs.Listing.{limit}
 use Rattle.cov_steps.specs.Runs.{RunList, AreRuns, count_in, sum_at}
 use Rattle.cov_steps.specs.Walking.{pushed, Walked}
 use Rattle.cov_steps.proofs.Maximal.{maximal_runs-pushed, maximal_runs-none, count_in-here, count_in-behind}

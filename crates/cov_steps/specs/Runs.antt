@@ -3,7 +3,7 @@ use Rattle.std.specs.Prelude.{◌≡◌, ℕ, ◌+◌, ◌<◌, ◌≤◌, List,
 use Rattle.cov_model.specs.declared.report.Range.{Range}
 use Rattle.cov_model.specs.Nesting.{has_offset, inner_count}
 use Rattle.cov_model.specs.Normal.{maximal_runs}
-use Rattle.cov_model.specs.Sums.{limit}
+use Rattle.cov_text.specs.Listing.{limit}
 
 -- a start, an end, and the runs between them
 pub record RunList : Type 0 where

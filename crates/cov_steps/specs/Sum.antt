@@ -1,6 +1,6 @@
 -- Why `Runs::add` refuses, and what its helpers answer.
 use Rattle.std.specs.Prelude.{◌≡◌, ℕ, ◌+◌, ◌<◌}
-use Rattle.cov_model.specs.Sums.{limit}
+use Rattle.cov_text.specs.Listing.{limit}
 use Rattle.cov_steps.specs.declared.fault.StepFault.{StepFault}
 use Rattle.cov_steps.specs.declared.fault.StepFault.TheVariants.{TooBig, NoMemory}
 use Rattle.cov_steps.specs.Runs.{RunList, IsFirstPast}

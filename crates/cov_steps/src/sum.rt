@@ -1,7 +1,7 @@
 //! The sum of two lists of runs.
 ghost use Rattle.std.specs.Prelude.{◌≡◌, ◌+◌, ◌<◌, ◌≤◌, length, IfOk, OnOk, IfErr};
 ghost use Rattle.cov_model.specs.Normal.{maximal_runs};
-ghost use Rattle.cov_model.specs.Sums.{limit};
+ghost use Rattle.cov_text.specs.Listing.{limit};
 ghost use Rattle.cov_steps.specs.Runs.{sum_at, Fits};
 ghost use Rattle.cov_steps.specs.Sum.{IsPast, IsPastAt};
 ghost use Rattle.cov_steps.specs.Walking.{Walked};

@@ -4,7 +4,7 @@ use Rattle.std.specs.Prelude.{min, nat_lt, filter}
 use Rattle.std.specs.List.{flat_map}
 use Rattle.std.proofs.lemmas.List.{append_assoc, append-nil, length-append, drop_all}
 use Rattle.std.proofs.lemmas.List.Elements.{filter-append}
-use Rattle.cov_model.specs.Sums.{limit}
+use Rattle.cov_text.specs.Listing.{limit}
 use Rattle.istanbul_json.specs.declared.file.FileParts.{FileParts}
 use Rattle.cov_text.specs.Listing.{cleaned}
 use Rattle.lcov_text.specs.declared.counts.LineCount.{LineCount}

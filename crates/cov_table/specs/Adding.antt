@@ -1,6 +1,6 @@
 -- How files are taken in, one after the other.
 use Rattle.std.specs.Prelude.{ℕ, suc, ◌+◌, min, List, [], ◌∷◌, Option, None, Some, ◌==◌, if◌then◌else◌}
-use Rattle.cov_model.specs.Sums.{limit}
+use Rattle.cov_text.specs.Listing.{limit}
 use Rattle.istanbul_json.specs.declared.file.FileParts.{FileParts}
 use Rattle.lcov_text.specs.declared.counts.LineCount.{LineCount}
 use Rattle.lcov_text.specs.declared.counts.Share.{Share}

@@ -1,5 +1,5 @@
 -- Words on lists that the other files share.
-use Rattle.std.specs.Prelude.{Bool, ℕ, zero, suc, ◌-◌, ◌||◌, ◌==◌, nat_eq, nat_lt, if◌then◌else◌, List, [], ◌∷◌, map, Option, None, Some, bytes_eq}
+use Rattle.std.specs.Prelude.{Bool, ℕ, zero, suc, ◌-◌, ◌^◌, ◌||◌, ◌==◌, nat_eq, nat_lt, if◌then◌else◌, List, [], ◌∷◌, map, Option, None, Some, bytes_eq}
 use Rattle.std.specs.List.{starts_with}
 use Rattle.std.specs.declared.cmp.Ordering.{Ordering}
 use Rattle.std.specs.Ordering.{nat_cmp}
@@ -58,3 +58,7 @@ in_order cmp xs = inserted cmp [] xs
 -- the greatest size of a text that is read, in bytes
 abbrev pub max_text : ℕ
 max_text = 134217728
+
+-- the greatest count and the greatest sum
+abbrev pub limit : ℕ
+limit = 2 ^ 64 - 1

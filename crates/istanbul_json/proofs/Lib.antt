@@ -3,7 +3,6 @@ pub mod Walked
 pub mod Sorted
 pub mod Inserted
 pub mod KeyOrder
-pub mod Parsed
 pub mod Files
 pub mod Written
 pub mod Shapes

@@ -10,9 +10,9 @@ use Rattle.std.proofs.lemmas.Bool.Decides.{nat_tests}
 use Rattle.std.proofs.lemmas.Cmp.{nat_list_cmp_total, tied_itself, nat_eq_equiv}
 use Rattle.std.proofs.lemmas.Map.Text.{is_eq-slice_cmp}
 use Rattle.cov_text.specs.Listing.{text_cmp, same_text, max_text}
-use Rattle.cov_model.specs.Reading.{◌>>=◌, or_fault, whole, offset_of, parsed}
-use Rattle.cov_model.specs.Members.{each_of, each_member, listed}
-use Rattle.cov_model.specs.File.{array_of}
+use Rattle.json_shapes.specs.Shapes.{◌>>=◌, or_fault, whole, offset_of, parsed}
+use Rattle.json_shapes.specs.Members.{each_of, each_member, listed}
+use Rattle.json_shapes.specs.Shapes.{array_of}
 use Rattle.serde_json.specs.Data.{Data, array, object, string, Members, no_members, member, put}
 use Rattle.istanbul_json.specs.declared.entry.FunctionEntry.{FunctionEntry}
 use Rattle.istanbul_json.specs.declared.entry.BranchEntry.{BranchEntry}

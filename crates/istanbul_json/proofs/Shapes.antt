@@ -7,7 +7,7 @@ use Rattle.std.specs.Cmp.Lexicographic.{slice_cmp}
 use Rattle.std.proofs.Math.Nat.{max-le, le-max_left, le-max_right}
 use Rattle.serde_json.specs.Data.{Data, array, object, Members, no_members, member, put, depth, items_depth, members_depth}
 use Rattle.serde_json.specs.Written.{has_float, items_have_float, members_have_float}
-use Rattle.cov_model.specs.File.{array_of}
+use Rattle.json_shapes.specs.Shapes.{array_of}
 use Rattle.istanbul_json.specs.declared.file.Mark.{Mark}
 use Rattle.istanbul_json.specs.declared.file.Loc.{Loc}
 use Rattle.istanbul_json.specs.declared.file.Function.{Function}

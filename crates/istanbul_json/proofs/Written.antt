@@ -6,7 +6,7 @@ use Rattle.std.proofs.lemmas.List.{map-append, drop_all}
 use Rattle.serde_json.specs.Data.{Data, Items, no_items, item, Members, no_members, put}
 use Rattle.serde_json.specs.View.{view, items_of}
 use Rattle.serde_json.specs.declared.value.Value.{Value}
-use Rattle.cov_model.specs.File.{array_of}
+use Rattle.json_shapes.specs.Shapes.{array_of}
 use Rattle.istanbul_json.specs.Value.{members_by}
 
 -- ---- a list

@@ -4,7 +4,7 @@ use Rattle.std.specs.Borrow.{Bor}
 use Rattle.std.specs.declared.alloc.Global.{Global}
 use Rattle.std.specs.List.Sorted.{IsStrictlySortedBy}
 use Rattle.cov_text.specs.Listing.{text_cmp}
-use Rattle.cov_model.specs.Reading.{◌>>=◌}
+use Rattle.json_shapes.specs.Shapes.{◌>>=◌}
 use Rattle.istanbul_json.specs.declared.file.FileParts.{FileParts}
 use Rattle.istanbul_json.specs.declared.file.CoverageFault.{CoverageFault}
 

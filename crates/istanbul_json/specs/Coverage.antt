@@ -4,8 +4,8 @@ use Rattle.std.specs.Cmp.Lexicographic.{pointwise}
 use Rattle.serde_json.specs.Data.{Data, Members, no_members, member}
 use Rattle.serde_json.specs.Find.{get, as_object}
 use Rattle.cov_text.specs.Listing.{same_text, max_text}
-use Rattle.cov_model.specs.Reading.{◌>>=◌, or_fault, whole, parsed}
-use Rattle.cov_model.specs.Members.{listed, keyed}
+use Rattle.json_shapes.specs.Shapes.{◌>>=◌, or_fault, whole, parsed}
+use Rattle.json_shapes.specs.Members.{listed, keyed}
 use Rattle.istanbul_json.specs.declared.file.Loc.{Loc}
 use Rattle.istanbul_json.specs.declared.file.Statement.{Statement}
 use Rattle.istanbul_json.specs.declared.file.Function.{Function}

@@ -3,8 +3,8 @@ use Rattle.std.specs.Prelude.{ℕ, List, Option, None, Some, option_and_then, if
 use Rattle.serde_json.specs.Data.{Data}
 use Rattle.serde_json.specs.Find.{get, as_str, as_object}
 use Rattle.cov_text.specs.Listing.{same_text}
-use Rattle.cov_model.specs.Reading.{offset_of}
-use Rattle.cov_model.specs.Members.{listed, if_given}
+use Rattle.json_shapes.specs.Shapes.{offset_of}
+use Rattle.json_shapes.specs.Members.{listed, if_given}
 use Rattle.istanbul_json.specs.declared.file.Mark.{Mark}
 use Rattle.istanbul_json.specs.declared.file.Loc.{Loc}
 use Rattle.istanbul_json.specs.declared.entry.FunctionEntry.{FunctionEntry}

@@ -1,7 +1,7 @@
 //! The members of a file, each of its kind.
 ghost use Rattle.std.specs.Prelude.{◌≡◌, option_map, IfOk, IfSome};
 ghost use Rattle.serde_json.specs.View.{view, members_view};
-ghost use Rattle.cov_model.specs.Members.{each_member, keyed};
+ghost use Rattle.json_shapes.specs.Members.{each_member, keyed};
 ghost use Rattle.istanbul_json.specs.Answers.{seen, pairs, AreRising};
 ghost use Rattle.istanbul_json.specs.Coverage.{member_as};
 ghost use Rattle.istanbul_json.specs.Gives.{GivesCoverage};

@@ -1,7 +1,8 @@
 //! The coverage files of a text.
-ghost use Rattle.std.specs.Prelude.{◌≡◌, codes, IfOk};
+ghost use Rattle.std.specs.Prelude.{◌≡◌, ◌≤◌, length, codes, IfOk};
 ghost use Rattle.serde_json.specs.View.{view, members_view};
-ghost use Rattle.cov_model.specs.Reading.{or_fault, parsed};
+ghost use Rattle.cov_text.specs.Listing.{max_text};
+ghost use Rattle.json_shapes.specs.Shapes.{or_fault, parsed};
 ghost use Rattle.istanbul_json.specs.Answers.{seen};
 ghost use Rattle.istanbul_json.specs.Coverage as coverage;
 ghost use Rattle.istanbul_json.specs.declared.file.CoverageFault.TheVariants.{Syntax};
@@ -14,6 +15,7 @@ use crate::keys::{as_many_counts, in_key_order, same_keys};
 use crate::members::keyed_member;
 use crate::{CoverageFault, CoverageField, FileCoverage, FileParts, Loc};
 use cov_text::{Items, MAX_TEXT, Text};
+use json_shapes::{ParseFault, parse};
 use serde_json::{Map, Value};
 use std::alloc::Global;
 
@@ -42,14 +44,16 @@ pub fn read_coverage(alloc: Global, bytes: &[u8]) -> Result<Items<FileCoverage>,
     }
 }
 
-/// The JSON value of a text.
+/// The JSON value of a text that isn't too long.
 fn json_of(alloc: Global, bytes: &[u8]) -> Result<Value, CoverageFault>
+    requires { length bytes.now ≤ max_text }
     ensures { GivesCoverage (seen view result) (or_fault Syntax (parsed bytes.now)) }
 {
-    match Value::from_slice(alloc, bytes) {
+    match parse(alloc, bytes) {
         Ok(value) => Ok(value),
-        Err(error) if error.is_memory() => Err(CoverageFault::NoMemory),
-        Err(_) => Err(CoverageFault::Syntax),
+        Err(ParseFault::TooLong) => Err(CoverageFault::TooLong),
+        Err(ParseFault::Syntax) => Err(CoverageFault::Syntax),
+        Err(ParseFault::NoMemory) => Err(CoverageFault::NoMemory),
     }
 }
 

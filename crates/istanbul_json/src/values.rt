@@ -3,13 +3,14 @@ ghost use Rattle.std.specs.Prelude.{◌≡◌, Option, codes, option_and_then, I
 ghost use Rattle.serde_json.specs.Data.{Data};
 ghost use Rattle.serde_json.specs.View.{view, items_view};
 ghost use Rattle.serde_json.specs.Find.{get};
-ghost use Rattle.cov_model.specs.Reading.{whole, offset_of};
-ghost use Rattle.cov_model.specs.Members.{each_of, listed};
+ghost use Rattle.json_shapes.specs.Shapes.{whole};
+ghost use Rattle.json_shapes.specs.Members.{each_of, listed};
 ghost use Rattle.istanbul_json.specs.Members as members;
 
 use crate::entry::{BranchEntry, FunctionEntry};
 use crate::{Loc, Mark};
 use cov_text::{Items, Text};
+use json_shapes::offset_in;
 use serde_json::Value;
 use std::alloc::{AllocError, Global};
 
@@ -22,22 +23,12 @@ pub trait FromValue: Drop + Sized {
         ensures { IfOk result (λ found. found ≡ reads (view value.now)) };
 }
 
-/// A number of at most 32 bits.
-fn small(value: &Value) -> Option<u32>
-    ensures { result ≡ offset_of (view value.now) }
-{
-    match value.as_u64() {
-        Some(number) if number < 1 << 32 => Some(number as u32),
-        _ => None,
-    }
-}
-
 /// A line or a column, which may be absent or null.
 fn number_at(value: &Value, key: &str) -> Option<Option<u32>>
     ensures { result ≡ members.number_by key.now (view value.now) }
 {
     match value.get(key) {
-        Some(found) if !found.is_null() => Some(Some(small(found)?)),
+        Some(found) if !found.is_null() => Some(Some(offset_in(found)?)),
         _ => Some(None),
     }
 }

@@ -4,7 +4,7 @@ ghost use Rattle.std.specs.List.{AllByRecursion};
 ghost use Rattle.serde_json.specs.Data.{Data, array, object, put};
 ghost use Rattle.serde_json.specs.View.{view, members_view};
 ghost use Rattle.cov_text.specs.Listing.{max_text};
-ghost use Rattle.cov_model.specs.File.{array_of};
+ghost use Rattle.json_shapes.specs.Shapes.{array_of};
 ghost use Rattle.istanbul_json.specs.Coverage.{coverage_reading};
 ghost use Rattle.istanbul_json.specs.Gives.{ArePathsInOrder};
 ghost use Rattle.istanbul_json.specs.Small as small;

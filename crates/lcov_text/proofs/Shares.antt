@@ -2,7 +2,7 @@
 use Rattle.std.proofs.Common.{◌≡◌, ℕ, ◌+◌, ◌<◌, ◌≤◌, Bool, true, false, cond, List, [], ◌∷◌, ◌++◌, length, drop, get_or, refl, sym, ap, ◌∙◌, subst, arith}
 use Rattle.std.specs.Prelude.{min, nat_lt, filter}
 use Rattle.std.proofs.lemmas.List.{drop_more, drop_all}
-use Rattle.cov_model.specs.Sums.{limit}
+use Rattle.cov_text.specs.Listing.{limit}
 use Rattle.istanbul_json.specs.declared.file.Branch.{Branch}
 use Rattle.lcov_text.specs.declared.counts.Share.{Share}
 use Rattle.lcov_text.specs.Counts.{share_of, counts_of_branches}

@@ -3,7 +3,7 @@ use Rattle.std.specs.Prelude.{ℕ, ◌+◌, min, max, List, [], ◌∷◌, Optio
 use Rattle.std.specs.Ordering.{nat_cmp}
 use Rattle.std.specs.Map.{lookup}
 use Rattle.std.specs.BTreeMap.{insert_entry, is_at}
-use Rattle.cov_model.specs.Sums.{limit}
+use Rattle.cov_text.specs.Listing.{limit}
 use Rattle.istanbul_json.specs.declared.file.Statement.{Statement}
 use Rattle.lcov_text.specs.declared.counts.LineCount.{LineCount}
 use Rattle.lcov_text.specs.declared.counts.Share.{Share}

@@ -2,7 +2,7 @@
 use Rattle.std.specs.Prelude.{ℕ, min, max, Bool, false, List, map, length, nat_lt, ◌==◌, option_map, unwrap_or, filter, filter_map, flat_map, fold}
 use Rattle.std.specs.Ordering.{nat_cmp}
 use Rattle.cov_text.specs.Listing.{in_order}
-use Rattle.cov_model.specs.Sums.{limit}
+use Rattle.cov_text.specs.Listing.{limit}
 use Rattle.istanbul_json.specs.declared.file.Statement.{Statement}
 use Rattle.istanbul_json.specs.declared.file.Function.{Function}
 use Rattle.istanbul_json.specs.declared.file.Branch.{Branch}

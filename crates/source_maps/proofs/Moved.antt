@@ -18,7 +18,7 @@ use Rattle.source_maps.specs.Kept.{AreParts, is_near, is_below, name_is_below, o
 use Rattle.source_maps.specs.Maps.{moved, moved_origin, stays_near, indexes_stay_near, joined, all_near, section_of, sections_from}
 use Rattle.source_maps.specs.Sections.{IsSection}
 use Rattle.source_maps.specs.Answers.{behind_map, behind_near}
-use Rattle.cov_model.specs.Reading.{◌>>=◌}
+use Rattle.json_shapes.specs.Shapes.{◌>>=◌}
 
 -- ---- every segment of a list
 

@@ -3,7 +3,7 @@ use Rattle.std.specs.Prelude.{◌++◌, List, Option, option_map, Result, Ok, Er
 use Rattle.source_maps.specs.declared.fault.MapFault.{MapFault}
 use Rattle.source_maps.specs.declared.map.MapSegment.{MapSegment}
 use Rattle.source_maps.specs.declared.map.MapParts.{MapParts}
-use Rattle.cov_model.specs.Reading.{◌>>=◌}
+use Rattle.json_shapes.specs.Shapes.{◌>>=◌}
 use Rattle.source_maps.specs.Maps.{joined}
 
 -- an answer, seen by view

@@ -1,13 +1,10 @@
 -- The map entries of a coverage text: what its member `source-map-cache` says of each url.
-use Rattle.std.specs.Prelude.{ℕ, List, [], ◌++◌, map, length, nat_lt, if◌then◌else◌, Option, None, Some, option_map, option_and_then, option_to_list, unwrap_or, Result, Ok, Err, codes}
+use Rattle.std.specs.Prelude.{ℕ, List, [], ◌++◌, Option, None, Some, option_map, option_and_then, option_to_list, unwrap_or, codes}
 use Rattle.serde_json.specs.Data.{Data, null, boolean, number, string, array, object, Members, no_members, member}
 use Rattle.serde_json.specs.Find.{get, as_object}
 use Rattle.serde_json.specs.View.{view}
-use Rattle.cov_text.specs.Listing.{max_text}
-use Rattle.cov_model.specs.declared.snapshot.TextFault.{TextFault}
-use Rattle.cov_model.specs.declared.snapshot.TextFault.TheVariants.{TooLong, Syntax}
-use Rattle.cov_model.specs.Reading.{◌>>=◌, or_fault, offset_of, parsed}
-use Rattle.cov_model.specs.Members.{listed, if_given}
+use Rattle.json_shapes.specs.Shapes.{offset_of}
+use Rattle.json_shapes.specs.Members.{listed, if_given}
 use Rattle.source_maps.specs.declared.entries.MapEntry.{MapEntry}
 use Rattle.source_maps.specs.declared.entries.EntryBody.{EntryBody}
 use Rattle.source_maps.specs.declared.entries.EntryBody.TheVariants.{Given, Bad}
@@ -61,7 +58,3 @@ entries_in (member url d ms) = option_to_list (entry_of url d) ++ entries_in ms
 -- what a text's value says; nothing where it isn't an object with such a member that is an object
 abbrev pub entries_of : Data → List Said
 entries_of d = unwrap_or (option_map entries_in (option_and_then as_object (get (codes "source-map-cache") d))) []
-
--- what the text with these bytes says of maps, or why it is no JSON
-unfoldable pub maps_reading : List ℕ → Result (List Said) TextFault
-maps_reading bytes = if nat_lt max_text (length bytes) then Err TooLong else (or_fault Syntax (parsed bytes) >>= λ d. Ok (entries_of d))

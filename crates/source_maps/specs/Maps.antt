@@ -4,8 +4,8 @@ use Rattle.std.specs.List.{list_all, ends_with}
 use Rattle.serde_json.specs.Data.{Data, Items, no_items, item}
 use Rattle.serde_json.specs.Find.{get, as_str, as_array, as_object}
 use Rattle.cov_text.specs.Listing.{max_text}
-use Rattle.cov_model.specs.Reading.{◌>>=◌, or_fault, whole}
-use Rattle.cov_model.specs.Members.{listed, or_null, if_there, if_given_or}
+use Rattle.json_shapes.specs.Shapes.{◌>>=◌, or_fault, whole}
+use Rattle.json_shapes.specs.Members.{listed, or_null, if_there, if_given_or}
 use Rattle.vlq_mappings.specs.declared.Origin.{Origin}
 use Rattle.vlq_mappings.specs.declared.Segment.{Segment}
 use Rattle.vlq_mappings.specs.declared.VlqFault.{VlqFault}

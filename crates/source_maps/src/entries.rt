@@ -1,11 +1,12 @@
 //! What a coverage text says of the maps of its scripts.
 ghost use Rattle.std.specs.Prelude.{◌≡◌, map, option_map, IfOk};
 ghost use Rattle.serde_json.specs.View.{view, items_view, members_view};
-ghost use Rattle.cov_model.specs.Reading.{offset_of};
-ghost use Rattle.cov_model.specs.Members.{each_of, listed};
+ghost use Rattle.json_shapes.specs.Shapes.{offset_of};
+ghost use Rattle.json_shapes.specs.Members.{each_of, listed};
 ghost use Rattle.source_maps.specs.Entries as spec;
 
 use cov_text::{Items, Text};
+use json_shapes::offset_in;
 use serde_json::{Map, Value};
 use std::alloc::{AllocError, Global};
 
@@ -111,20 +112,10 @@ fn lengths_in(alloc: Global, values: &[Value]) -> Result<Option<Items<u32>>, All
 {
     let mut lengths = Items::new(alloc);
     for value in values {
-        let Some(length) = length_of(value) else {
+        let Some(length) = offset_in(value) else {
             return Ok(None);
         };
         lengths.push(length)?;
     }
     Ok(Some(lengths))
-}
-
-// A number of 32 bits.
-fn length_of(value: &Value) -> Option<u32>
-    ensures { result ≡ offset_of (view value.now) }
-{
-    match value.as_u64() {
-        Some(number) if number < 1 << 32 => Some(number as u32),
-        _ => None,
-    }
 }

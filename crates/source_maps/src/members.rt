@@ -3,8 +3,8 @@ ghost use Rattle.std.specs.Prelude.{◌≡◌, ◌≤◌, [], Option, length, co
 ghost use Rattle.serde_json.specs.View.{view, items_view};
 ghost use Rattle.serde_json.specs.Find.{get, as_str};
 ghost use Rattle.cov_text.specs.Listing.{max_text};
-ghost use Rattle.cov_model.specs.Reading.{or_fault};
-ghost use Rattle.cov_model.specs.Members.{each_of, listed, or_null, if_there, if_given_or};
+ghost use Rattle.json_shapes.specs.Shapes.{or_fault};
+ghost use Rattle.json_shapes.specs.Members.{each_of, listed, or_null, if_there, if_given_or};
 ghost use Rattle.source_maps.specs.Maps as maps;
 ghost use Rattle.source_maps.specs.Answers.{seen};
 ghost use Rattle.source_maps.specs.Gives.{Gives};

@@ -1,6 +1,6 @@
 use Rattle.std.proofs.Common.{ℕ, ◌≤◌, ◌<◌, sym, subst, arith}
 use Rattle.cov_steps.specs.Runs.{RunList, count_in}
-use Rattle.cov_model.specs.Sums.{limit}
+use Rattle.cov_text.specs.Listing.{limit}
 use Rattle.cov_book.proofs.Within.{fits-within, past-offset}
 use Rattle.cov_book.proofs.sums.sum_with.Goals as goal
 

@@ -1,7 +1,7 @@
 use Rattle.std.proofs.Common.{ℕ, ◌≤◌, ◌<◌, sym, subst, arith}
 use Rattle.std.specs.List.{AllByRecursion}
 use Rattle.cov_model.specs.declared.report.Range.{Range}
-use Rattle.cov_model.specs.Sums.{limit}
+use Rattle.cov_text.specs.Listing.{limit}
 use Rattle.cov_steps.specs.Runs.{RunList, count_in}
 use Rattle.cov_book.proofs.Within.{counted-small}
 use Rattle.cov_book.proofs.sums.sums_of.Goals as goal

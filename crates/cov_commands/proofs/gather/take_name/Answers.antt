@@ -2,7 +2,7 @@ use Rattle.std.proofs.Common.{◌≡◌, sym, ap, ◌∙◌, subst, take, ◌++�
 use Rattle.std.specs.Prelude.{Some, option_map}
 use Rattle.cov_model.specs.Outcome.{answer_to}
 use Rattle.cov_model.specs.Reading.{reading}
-use Rattle.source_maps.specs.Entries.{maps_reading}
+use Rattle.cov_files.specs.Maps.{maps_reading}
 use Rattle.cov_io.specs.Told.{bytes_at, path_in}
 use Rattle.cov_commands.specs.Lines.{answer_line}
 use Rattle.cov_commands.proofs.Taking.{HasTaken-skip, HasTaken-snoc, reading-found}

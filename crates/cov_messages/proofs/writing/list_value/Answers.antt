@@ -2,7 +2,7 @@ use Rattle.std.proofs.Common.{refl, ap, ◌∙◌}
 use Rattle.serde_json.specs.Data.{array}
 use Rattle.serde_json.specs.View.{view}
 use Rattle.serde_json.proofs.Views.{view-Array}
-use Rattle.cov_model.specs.File.{array_of}
+use Rattle.json_shapes.specs.Shapes.{array_of}
 use Rattle.cov_messages.proofs.Written.{one-more, all-written}
 use Rattle.cov_messages.proofs.writing.list_value.Goals as goal
 

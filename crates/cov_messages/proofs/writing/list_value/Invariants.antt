@@ -1,7 +1,7 @@
 use Rattle.std.proofs.Common.{◌≡◌, drop}
 use Rattle.std.specs.Prelude.{map}
 use Rattle.serde_json.specs.View.{view}
-use Rattle.cov_model.specs.File.{array_of}
+use Rattle.json_shapes.specs.Shapes.{array_of}
 use Rattle.cov_messages.proofs.Written.{ahead}
 use Rattle.cov_messages.proofs.writing.list_value.Given as goal
 

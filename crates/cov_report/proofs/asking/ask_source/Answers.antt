@@ -2,7 +2,7 @@ use Rattle.std.proofs.Common.{◌≡◌, ◌∙◌, ap, sym, length}
 use Rattle.std.specs.Prelude.{option_map}
 use Rattle.std.specs.BTreeMap.{get}
 use Rattle.cov_text.specs.Listing.{text_cmp}
-use Rattle.cov_model.specs.Reading.{or_fault}
+use Rattle.json_shapes.specs.Shapes.{or_fault}
 use Rattle.istanbul_rules.specs.Parts.{mapped_part}
 use Rattle.cov_report.specs.declared.answer.SkipCause.TheVariants.{NotFile}
 use Rattle.cov_report.specs.SoFar.{taken_from}

@@ -1,7 +1,7 @@
 use Rattle.std.proofs.Common.{◌≡◌, ◌+◌, ◌<◌, ◌≤◌, ◌∙◌, sym, ap, inl, inr, length, drop, subst, arith}
 use Rattle.std.proofs.lemmas.Bool.{cases_lt}
 use Rattle.cov_model.specs.Normal.{range}
-use Rattle.cov_model.specs.Sums.{limit}
+use Rattle.cov_text.specs.Listing.{limit}
 use Rattle.cov_steps.specs.Runs.{sum_at}
 use Rattle.cov_steps.proofs.Ends.{length-pushed}
 use Rattle.cov_steps.proofs.Maximal.{AreRuns-ordered}

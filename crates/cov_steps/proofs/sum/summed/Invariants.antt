@@ -1,6 +1,6 @@
 use Rattle.std.proofs.Common.{◌≡◌, ℕ, ◌+◌, ◌-◌, ◌<◌, ◌≤◌, ◌⊎◌, length}
 use Rattle.cov_model.specs.Normal.{maximal_runs}
-use Rattle.cov_model.specs.Sums.{limit}
+use Rattle.cov_text.specs.Listing.{limit}
 use Rattle.cov_steps.specs.Runs.{sum_at}
 use Rattle.cov_steps.specs.Walking.{Walked}
 use Rattle.cov_steps.proofs.sum.summed.Given as goal

@@ -1,6 +1,6 @@
 use Rattle.std.proofs.Common.{◌≡◌}
 use Rattle.serde_json.specs.View.{members_view}
-use Rattle.cov_model.specs.Members.{each_member}
+use Rattle.json_shapes.specs.Members.{each_member}
 use Rattle.istanbul_json.specs.Answers.{behind, pairs}
 use Rattle.istanbul_json.proofs.members.each_member.Given as goal
 

@@ -1,6 +1,6 @@
 use Rattle.std.proofs.Common.{◌≡◌, drop}
 use Rattle.serde_json.specs.View.{items_view}
-use Rattle.cov_model.specs.Members.{each_of}
+use Rattle.json_shapes.specs.Members.{each_of}
 use Rattle.istanbul_json.specs.Answers.{behind}
 use Rattle.istanbul_json.proofs.values.each_of.Given as goal
 

@@ -1,7 +1,7 @@
 use Rattle.std.proofs.Common.{◌≡◌, drop, map}
 use Rattle.std.specs.List.{AllByRecursion}
 use Rattle.serde_json.specs.View.{view}
-use Rattle.cov_model.specs.File.{array_of}
+use Rattle.json_shapes.specs.Shapes.{array_of}
 use Rattle.istanbul_json.proofs.Written.{ahead}
 use Rattle.istanbul_json.proofs.writing.list_value.Given as goal
 

@@ -1,7 +1,7 @@
 use Rattle.std.proofs.Common.{◌≡◌, drop}
 use Rattle.serde_json.specs.View.{items_view}
-use Rattle.cov_model.specs.Reading.{offset_of}
-use Rattle.cov_model.specs.Members.{each_of}
+use Rattle.json_shapes.specs.Shapes.{offset_of}
+use Rattle.json_shapes.specs.Members.{each_of}
 use Rattle.source_maps.specs.Answers.{behind_all}
 use Rattle.source_maps.proofs.entries.lengths_in.Given as goal
 

@@ -1,7 +1,7 @@
 use Rattle.std.proofs.Common.{◌≡◌, drop}
 use Rattle.serde_json.specs.View.{items_view}
 use Rattle.serde_json.specs.Find.{as_str}
-use Rattle.cov_model.specs.Members.{each_of, or_null}
+use Rattle.json_shapes.specs.Members.{each_of, or_null}
 use Rattle.source_maps.specs.Answers.{behind_all}
 use Rattle.source_maps.proofs.members.optional_texts.Given as goal
 

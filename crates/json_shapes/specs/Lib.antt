@@ -1,0 +1,3 @@
+pub mod Shapes
+pub mod Members
+pub mod Parsing
