@@ -1,6 +1,9 @@
 //! The real folders: a store over the file system.
-ghost use Rattle.std.specs.Prelude.{◌≡◌, ◌≤◌, None, IfOk, vec_len};
+ghost use Rattle.std.specs.Prelude.{◌≡◌, ◌≤◌, None, IfOk, IfSome, take, vec_len};
+ghost use Rattle.std.specs.IoError.{error_kind};
 ghost use Rattle.cov_io.specs.Causes.{Rose};
+ghost use Rattle.cov_io.specs.Errors.{fault_on_way, fault_within};
+ghost use Rattle.cov_io.specs.Real.{folder_faults};
 ghost use Rattle.cov_io.specs.declared.store.StoreFault.TheVariants.{Absent, Failed};
 
 use crate::{Store, StoreFault};
@@ -9,11 +12,11 @@ use std::io::{ErrorKind, Read};
 use std::rt::Files;
 use std::{fs, io};
 
-/// How many bytes one read of a file asks for.
-const PIECE: usize = 65536;
-
 /// A store over the folders and files of the system. It tells no content, so no clause speaks of what a file holds;
 /// each error raises its count.
+///
+/// A path is looked at before it is opened, through links. What is no plain file then, as a folder, a pipe or a
+/// device, is `Absent`, and is never opened.
 #[derive(Drop)]
 pub struct FolderStore<R: Drop> {
     rt: R,
@@ -22,22 +25,21 @@ pub struct FolderStore<R: Drop> {
 
 impl<R: Drop> FolderStore<R> {
     /// A store that has not failed yet.
-    pub fn new(rt: R) -> FolderStore<R> {
+    pub fn new(rt: R) -> FolderStore<R>
+        ensures { folder_faults result ≡ 0 }
+    {
         FolderStore { rt, faults: 0 }
     }
 
-    // Counts an error, and names it.
-    fn failed(&mut self, error: io::Error) -> StoreFault
+    // Counts a fault, and hands it on.
+    fn failed(&mut self, fault: StoreFault) -> StoreFault
+        ensures same { result ≡ fault }
         ensures rose { Rose self.old.faults self.new.faults }
         ensures later { self.old.faults ≤ self.new.faults }
     {
         let faults = self.faults;
         self.faults = faults.saturating_add(1);
-        match error.kind() {
-            ErrorKind::NotFound => StoreFault::Absent,
-            ErrorKind::OutOfMemory => StoreFault::NoMemory,
-            _ => StoreFault::Failed,
-        }
+        fault
     }
 }
 
@@ -51,15 +53,40 @@ impl<R: Files + AllocGlobal + Clone + Drop> Store for FolderStore<R> {
     fn list(&mut self, alloc: Global, folder: &str) -> Result<Vec<String>, StoreFault> {
         match plain_files(&self.rt, alloc, folder) {
             Ok(names) => Ok(names),
-            Err(error) => Err(self.failed(error)),
+            Err(fault) => Err(self.failed(fault)),
         }
     }
 
     fn read(&mut self, alloc: Global, path: &str, most: usize) -> Result<Vec<u8>, StoreFault> {
-        match first_bytes(&self.rt, alloc, path, most) {
+        match file_at(&self.rt, alloc, path, most) {
             Ok(bytes) => Ok(bytes),
-            Err(error) => Err(self.failed(error)),
+            Err(fault) => Err(self.failed(fault)),
         }
+    }
+}
+
+// What an error means on the way to a file or folder.
+fn on_way(error: io::Error) -> StoreFault
+    ensures { result ≡ fault_on_way (error_kind error) }
+{
+    match error.kind() {
+        ErrorKind::NotFound
+        | ErrorKind::NotADirectory
+        | ErrorKind::IsADirectory
+        | ErrorKind::InvalidFilename
+        | ErrorKind::InvalidInput
+        | ErrorKind::FilesystemLoop => StoreFault::Absent,
+        _ => within(error),
+    }
+}
+
+// What an error means within a file or folder.
+fn within(error: io::Error) -> StoreFault
+    ensures { result ≡ fault_within (error_kind error) }
+{
+    match error.kind() {
+        ErrorKind::OutOfMemory => StoreFault::NoMemory,
+        _ => StoreFault::Failed,
     }
 }
 
@@ -68,11 +95,11 @@ fn plain_files<R: Files + AllocGlobal + Clone + Drop>(
     rt: &R,
     alloc: Global,
     folder: &str,
-) -> io::Result<Vec<String>> {
+) -> Result<Vec<String>, StoreFault> {
     let mut names = Vec::new(alloc);
-    for entry in fs::read_dir(rt, folder)? {
-        let entry = entry?;
-        if entry.file_type()?.is_file() {
+    for entry in fs::read_dir(rt, folder).map_err(on_way)? {
+        let entry = entry.map_err(within)?;
+        if entry.file_type().map_err(within)?.is_file() {
             names.push(String::from_str(alloc, entry.file_name())?)?;
         }
     }
@@ -80,20 +107,33 @@ fn plain_files<R: Files + AllocGlobal + Clone + Drop>(
     Ok(names)
 }
 
-// The first bytes of a file, or all of them where there are fewer.
-fn first_bytes<R: Files>(rt: &R, alloc: Global, path: &str, most: usize) -> io::Result<Vec<u8>>
+// The first bytes of the plain file at a path.
+fn file_at<R: Files>(rt: &R, alloc: Global, path: &str, most: usize) -> Result<Vec<u8>, StoreFault>
     ensures { IfOk result (λ bytes. vec_len bytes ≤ most) }
 {
-    let mut file = fs::open(rt, path)?;
-    let mut bytes = Vec::new(alloc);
-    let mut piece = [0u8; PIECE];
-    while bytes.len() < most {
-        let wanted = PIECE.min(most - bytes.len());
-        let count = file.read(&mut piece[..wanted])?;
-        if count == 0 {
-            break;
-        }
-        bytes.extend_from_slice(&piece[..count])?;
+    let found = fs::metadata(rt, path).map_err(on_way)?;
+    if !found.is_file() {
+        return Err(StoreFault::Absent);
     }
+    let file = fs::open(rt, path).map_err(on_way)?;
+    first_bytes(file, alloc, found.len(), most).map_err(within)
+}
+
+// The first bytes that a reader gives, or all of them where there are fewer. The length is what it is thought to have.
+fn first_bytes<F: Read + Drop>(
+    file: F,
+    alloc: Global,
+    length: u64,
+    most: usize,
+) -> io::Result<Vec<u8>>
+    ensures whole { IfOk result (λ bytes. IfSome (F.remaining file)
+        (λ all. bytes.items ≡ take most all)) }
+    ensures bound { IfOk result (λ bytes. vec_len bytes ≤ most) }
+{
+    let expected = usize::try_from(length).unwrap_or(most).min(most);
+    // With room for one byte more the end is met without growing.
+    let mut bytes = Vec::with_capacity(alloc, expected.saturating_add(1))?;
+    file.take(most as u64).read_to_end(&mut bytes)?;
+    bytes.truncate(most);
     Ok(bytes)
 }

@@ -1,9 +1,0 @@
-use Rattle.std.proofs.Common.{◌-◌, ◌≤◌, vec_len}
-use Rattle.cov_io.proofs.folder.first_bytes.Given as goal
-
--- no more was read than is wanted
-abbrev pub invariant-loop-piece : goal.invariant-loop-piece
-invariant-loop-piece g l = vec_len l.bytes ≤ l.most
-
-abbrev pub decreases-loop-piece : goal.decreases-loop-piece
-decreases-loop-piece g l = l.most - vec_len l.bytes
