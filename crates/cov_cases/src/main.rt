@@ -1,0 +1,76 @@
+//! Plays the cases of the folder `cases` again, and says of each whether all comes as it stands there.
+//!
+//! A case is a transcript: files, runs of a command over them, and below each run what it is to give.
+//!
+//! - `== PATH` begins a file. The lines behind it are its text, up to the next line that begins `== `,
+//!   `! ` or `$`; the end of the last line is not part of it. The file's folder is there too, and
+//!   `== FOLDER/` is a folder alone. A file is there for all later runs of its case.
+//!   `== PATH in hex` is a file of the bytes whose hex digits follow, with a space between two.
+//! - `! store N`, `! out N` and `! err N`, before a run: call N of that object, from 0, fails.
+//! - `$ WORDS` is a run. Words stand apart by one space; `''` is the empty word.
+//! - Below it, where something was written, stand `-- out` and `-- err`, each with what was, and then
+//!   `= STATUS ANSWER, N calls`, with the number of calls of the store.
+//! - Notes begin with `#`. They and empty lines stand before a file, a `!` or a run.
+//!
+//! Where what comes is another text than the case, that whole text is written, the first line that
+//! differs goes to the error stream, and the status is 1. No line of a text may begin `== `, `! `, `$`
+//! or `= `.
+#![tactic(auto)]
+
+mod stage;
+
+use stage::played;
+use std::rt::Files;
+use std::{fs, io};
+
+fn main(rt: HostRuntime) -> io::Result<()> {
+    let alloc = rt.alloc();
+    let mut all_as_wanted = true;
+    for name in names_in(&rt, "cases")? {
+        let path = format!(in alloc; "cases/{name}")?;
+        let wanted = fs::read_to_string(&rt, path.as_str())?;
+        let given = played(alloc, wanted.as_str())?;
+        if given.as_str() == wanted.as_str() {
+            println!(rt; "{name}: as it stands")?;
+        } else {
+            all_as_wanted = false;
+            println!(rt; "{name}: differs\n{given}")?;
+            if let Some((line, wanted, given)) = first_difference(wanted.as_str(), given.as_str()) {
+                eprintln!(rt; "{path}:{line}: wanted {wanted:?}, given {given:?}")?;
+            }
+        }
+    }
+    if all_as_wanted {
+        Ok(())
+    } else {
+        Err(io::Error::from(io::ErrorKind::InvalidData))
+    }
+}
+
+// The names in a folder, in byte order.
+fn names_in<R: Files + AllocGlobal + Clone + Drop>(
+    rt: &R,
+    folder: &str,
+) -> io::Result<Vec<String>> {
+    let alloc = rt.alloc();
+    let mut names = Vec::new(alloc);
+    for entry in fs::read_dir(rt, folder)? {
+        names.push(String::from_str(alloc, entry?.file_name())?)?;
+    }
+    names.sort()?;
+    Ok(names)
+}
+
+// The first lines that differ, and their number.
+fn first_difference<'a>(wanted: &'a str, given: &'a str) -> Option<(u64, &'a str, &'a str)> {
+    let mut lines = wanted.split('\n');
+    let mut number = 0u64;
+    for given in given.split('\n') {
+        number = number.saturating_add(1);
+        let wanted = lines.next().unwrap_or("(the end)");
+        if wanted != given {
+            return Some((number, wanted, given));
+        }
+    }
+    None
+}
