@@ -1,21 +1,7 @@
-//! Tests that cross the crates: worked examples of the commands, over stores and sinks in memory and over real ones.
+//! Tests that no case file can be: where memory is wanted, and the real folder and stream.
 #![tactic(auto)]
 
 #[cfg(test)]
-mod checking;
-#[cfg(test)]
-mod comparing;
-#[cfg(test)]
-mod failing;
-#[cfg(test)]
-mod fields;
-#[cfg(test)]
-mod merging;
+mod memory;
 #[cfg(test)]
 mod outside;
-#[cfg(test)]
-mod refusing;
-#[cfg(test)]
-mod reporting;
-#[cfg(test)]
-mod stage;
