@@ -29,11 +29,11 @@ aligned-insert (e ∷ es) k v h new = by (file_order k e.0) refl (aligned-insert
     by Greater is rest = (h.0, rest)
 
 -- what is found for a key goes over its root
-abbrev IfAligned : Key → Option Sums → Type 0
+abbrev pub IfAligned : Key → Option Sums → Type 0
 IfAligned k None = Unit {0}
 IfAligned k (Some v) = IsAligned (k, v)
 
-aligned-lookup : (known : List (Key × Sums)) (k : Key) → AreAligned known → IfAligned k (lookup (is_at (file_order k)) known)
+pub aligned-lookup : (known : List (Key × Sums)) (k : Key) → AreAligned known → IfAligned k (lookup (is_at (file_order k)) known)
 aligned-lookup [] k h = tt
 aligned-lookup (e ∷ es) k h = by (file_order k e.0) refl (aligned-lookup es k h.1)
   where

@@ -1,13 +1,11 @@
 -- Finding the first sum past the limit.
 use Rattle.std.proofs.Common.{◌≡◌, ℕ, suc, ◌+◌, ◌-◌, ◌<◌, Bool, true, false, List, [], ◌∷◌, ◌++◌, map, refl, sym, ap, ◌∙◌, arith}
-use Rattle.std.specs.Prelude.{Option, None, Some, option_map, min, nat_le, nat_lt, cond, find, filter, filter_map, flat_map, sum_by, ◌&&◌, ◌^◌}
+use Rattle.std.specs.Prelude.{Option, None, Some, option_map, min, nat_le, nat_lt, cond, find, filter, flat_map, sum_by, ◌&&◌, ◌^◌}
 use Rattle.std.specs.List.{list_all}
 use Rattle.std.specs.Option.{option_or}
-use Rattle.std.specs.BTreeSet.{insert_key}
 use Rattle.std.proofs.lemmas.List.Folds.{find-append}
 use Rattle.std.proofs.lemmas.List.{append-nil}
 use Rattle.std.proofs.lemmas.Bool.Decides.{nat_tests}
-use Rattle.std.proofs.lemmas.Grind.{flat_map-append}
 use Rattle.std.proofs.lemmas.List.Sums.{sum_by-append, sum_by-cons}
 use Rattle.cov_model.specs.declared.report.FunctionReport.{FunctionReport}
 use Rattle.cov_model.specs.declared.snapshot.Entry.{Entry}
@@ -16,32 +14,14 @@ use Rattle.cov_model.specs.declared.sums.Key.{Key}
 use Rattle.cov_model.specs.declared.sums.At.{At}
 use Rattle.cov_model.specs.declared.sums.At.TheVariants.{Root, Offset}
 use Rattle.cov_model.specs.declared.sums.SumFault.{SumFault}
-use Rattle.cov_text.specs.Listing.{inserted, counted, offsets}
+use Rattle.cov_text.specs.Listing.{counted, offsets}
 use Rattle.cov_model.specs.Nesting.{or_else}
 use Rattle.cov_text.specs.Listing.{limit}
-use Rattle.cov_model.specs.Sums.{fits, sum_at, sum_fault, passes_limit, points, keys, keys_in_order, file_order, key_of, is_of, reports, root, total}
+use Rattle.cov_model.specs.Sums.{fits, sum_at, sum_fault, passes_limit, points, keys_in_order, is_of, reports, root, total}
 use Rattle.cov_model.proofs.Grows.{fits-each, sum_at-append}
-use Rattle.cov_book.specs.Counts.{capped, weight, reports_in, passes, first_point, first_sum, fault_with, with_script, with_scripts}
+use Rattle.cov_book.specs.Counts.{capped, weight, reports_in, passes, first_point, first_sum, fault_with}
 
-inserted-append : (xs ys : List Key) (known : List Key) → inserted file_order known (xs ++ ys) ≡ inserted file_order (inserted file_order known xs) ys
-inserted-append [] ys known = refl
-inserted-append (x ∷ xs) ys known = inserted-append xs ys (insert_key file_order known x)
-
--- one script more, and one snapshot more
-pub with_scripts_more : (known : List Key) (entry : Entry) (rest : List Entry) → with_scripts known (entry ∷ rest) ≡ with_scripts (with_script known entry.url entry.functions) rest
-with_scripts_more known entry rest = inserted-append (filter_map (key_of entry.url) entry.functions) (flat_map (λ (e : Entry). filter_map (key_of e.url) e.functions) rest) known
-
-keys-of-scripts : Snapshot → List Key
-keys-of-scripts snapshot = flat_map (λ (entry : Entry). filter_map (key_of entry.url) entry.functions) snapshot
-
-pub keys_more : (held : List Snapshot) (snapshot : Snapshot) → keys_in_order (held ++ snapshot ∷ []) ≡ with_scripts (keys_in_order held) snapshot
-unfolding keys-of-scripts
-keys_more held snapshot =
-    ap (inserted file_order []) (flat_map-append keys-of-scripts held (snapshot ∷ []))
-    ∙ inserted-append (keys held) (keys-of-scripts snapshot ++ []) []
-    ∙ ap (inserted file_order (keys_in_order held)) (append-nil (keys-of-scripts snapshot))
-
-offsets-more : (o end : ℕ) → o < end → offsets o end ≡ o ∷ offsets (o + 1) end
+pub offsets-more : (o end : ℕ) → o < end → offsets o end ≡ o ∷ offsets (o + 1) end
 offsets-more o end l =
     let n : end - o ≡ suc (end - (o + 1)) = omega arith in
     let next : suc o ≡ o + 1 = omega arith in
@@ -96,7 +76,7 @@ unfolding reports
 new-is snapshot key = append-nil (reports_in key snapshot)
 
 -- the sum at a point, with what is added
-both-is : (held : List Snapshot) (snapshot : Snapshot) (key : Key) (at : At) → sum_at (held ++ snapshot ∷ []) key at ≡ sum_by (weight at) (reports held key) + sum_by (weight at) (reports_in key snapshot)
+pub both-is : (held : List Snapshot) (snapshot : Snapshot) (key : Key) (at : At) → sum_at (held ++ snapshot ∷ []) key at ≡ sum_by (weight at) (reports held key) + sum_by (weight at) (reports_in key snapshot)
 both-is held snapshot key at =
     sum_at-append held (snapshot ∷ []) key at ∙ ap (λ n. n + sum_at (snapshot ∷ []) key at) (sum-is held key at)
     ∙ ap (λ n. sum_by (weight at) (reports held key) + n) (sum-is (snapshot ∷ []) key at ∙ ap (sum_by (weight at)) (new-is snapshot key))

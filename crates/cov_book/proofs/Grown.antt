@@ -24,7 +24,7 @@ keys-are : (held : List Snapshot) (ks : List Key) → keys_of (map (key_sums hel
 keys-are held [] = refl
 keys-are held (k ∷ ks) = ap (λ rest. k ∷ rest) (keys-are held ks)
 
-kept-list : (held : List Snapshot) → fits held ≡ true → AreKept (entries_of held)
+pub kept-list : (held : List Snapshot) → fits held ≡ true → AreKept (entries_of held)
 unfolding entries_of
 kept-list held fit = record {
   sorted = subst (IsStrictlySortedBy file_order) (sym (keys-are held (keys_in_order held))) (in_order-sorted file_order file_total (keys held));

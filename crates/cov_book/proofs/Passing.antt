@@ -1,38 +1,30 @@
 -- What passes the limit: by the sums of a list, and by its entries.
 use Rattle.std.proofs.Common.{◌≡◌, ℕ, zero, suc, ◌+◌, ◌-◌, ◌<◌, ◌≤◌, Bool, true, false, List, [], ◌∷◌, ◌++◌, map, refl, sym, ap, ◌∙◌, subst, arith, inl, inr}
-use Rattle.std.specs.Prelude.{Option, None, Some, IsSome, is_some, is_none, option_map, cond, min, find, filter, filter_map, flat_map, sum_by, nat_lt, nat_le, ◌&&◌, ◌||◌}
+use Rattle.std.specs.Prelude.{Option, None, Some, IsSome, is_some, is_none, option_map, cond, min, find, flat_map, sum_by, nat_lt, nat_le, ◌&&◌}
 use Rattle.std.specs.List.{list_all, list_any}
 use Rattle.std.specs.Map.{lookup}
-use Rattle.std.specs.BTreeSet.{BTreeSet}
 use Rattle.std.specs.BTreeMap.{is_at}
 use Rattle.std.proofs.lemmas.Bool.{cases_lt}
 use Rattle.std.proofs.lemmas.Bool.Decides.{nat_tests}
-use Rattle.std.proofs.lemmas.Grind.{flat_map-append}
-use Rattle.std.proofs.lemmas.List.Folds.{list_all-append, list_any-append}
-use Rattle.std.proofs.lemmas.List.Kept.{IsStrictlySortedBy-filter}
-use Rattle.std.proofs.lemmas.Map.Lookups.{btree_set_from_contains}
+use Rattle.std.proofs.lemmas.List.Folds.{list_all-append}
 use Rattle.cov_model.specs.declared.report.FunctionReport.{FunctionReport}
-use Rattle.cov_model.specs.declared.snapshot.Entry.{Entry}
 use Rattle.cov_model.specs.declared.snapshot.Snapshot.{Snapshot}
 use Rattle.cov_model.specs.declared.sums.Key.{Key}
 use Rattle.cov_model.specs.declared.sums.At.{At}
 use Rattle.cov_model.specs.declared.sums.At.TheVariants.{Root, Offset}
 use Rattle.cov_model.specs.declared.sums.SumFault.{SumFault}
 use Rattle.cov_text.specs.Listing.{counted, offsets}
-use Rattle.cov_model.specs.Nesting.{or_else}
 use Rattle.cov_text.specs.Listing.{limit}
-use Rattle.cov_model.specs.Sums.{fits, sum_at, sum_fault, points, root, total, reports, key_of, keys, keys_in_order, file_order, same_key}
+use Rattle.cov_model.specs.Sums.{fits, sum_at, sum_fault, points, root, total, reports, keys_in_order, file_order, same_key}
 use Rattle.cov_model.proofs.Fits.{joins_where_it_fits}
 use Rattle.cov_model.proofs.Grows.{fits-each}
 use Rattle.cov_steps.proofs.Maximal.{count_in-maximal}
 use Rattle.cov_book.specs.declared.sums.Sums.{Sums}
-use Rattle.cov_book.specs.Counts.{capped, weight, reports_in, passes, first_point, first_sum, fault_with}
-use Rattle.cov_book.specs.Entries.{IsWithin, AreWithin, is_among, sums_at, key_sums, entries_of, held_weight, passes_over, with_entries}
-use Rattle.cov_book.proofs.Finding.{fault-is, new-is, sum-is}
+use Rattle.cov_book.specs.Counts.{capped, weight, reports_in, passes, first_point, fault_with}
+use Rattle.cov_book.specs.Entries.{IsWithin, AreWithin, sums_at, key_sums, entries_of, held_weight, passes_over, with_entries}
+use Rattle.cov_book.proofs.Finding.{sum-is}
 use Rattle.cov_book.proofs.Having.{absent}
-use Rattle.cov_book.proofs.Keyed.{found, entries-more, is-at}
-use Rattle.cov_book.proofs.Ordered.{file_total, file_exact, in_order-sorted, any-in_order, any-each}
-use Rattle.cov_book.proofs.Placed.{among-filter}
+use Rattle.cov_book.proofs.Keyed.{found, entries-more}
 
 -- ---- points
 
@@ -187,79 +179,6 @@ all-fit held (k ∷ ks) h =
 pub within-fits : (held : List Snapshot) → AreWithin (entries_of held) → fits held ≡ true
 unfolding entries_of fits stays-within
 within-fits held h = all-fit held (keys_in_order held) h
-
--- ---- the keys of a snapshot
-
-no-reports-step : (held : List Snapshot) (snapshot : Snapshot) (key : Key) → fits held ≡ true → reports_in key snapshot ≡ [] → first_point held snapshot key (points key) ≡ None
-no-reports-step held snapshot key fit none =
-    find-points (passes (reports held key) (reports_in key snapshot)) (λ at. false) key
-    (λ at is. ap (λ rs. nat_lt limit (sum_by (weight at) (reports held key) + sum_by (weight at) rs)) none ∙ under at is)
-    ∙ never (points key)
-  where
-    not-past : (n m : ℕ) → n ≤ m → nat_lt m (n + 0) ≡ false
-    not-past n m l = grind (arith, nat_tests)
-
-    under : (at : At) → IsPoint key at → nat_lt limit (sum_by (weight at) (reports held key) + 0) ≡ false
-    under at is =
-        not-past (sum_by (weight at) (reports held key)) limit
-        (subst (λ n. n ≤ limit) (sum-is held key at) (true-le (sum_at held key at) limit (all-points (λ p. nat_le (sum_at held key p) limit) key (fits-each held fit key) at is)))
-
-    never : (ps : List At) → find (λ at. false) ps ≡ None
-    never [] = refl
-    never (p ∷ ps) = never ps
-
-filtered-sum : (held : List Snapshot) (snapshot : Snapshot) (p : Key → Bool) → ((key : Key) → p key ≡ false → first_point held snapshot key (points key) ≡ None)
-    → (ks : List Key) → first_sum held snapshot ks ≡ first_sum held snapshot (filter p ks)
-filtered-sum held snapshot p h [] = refl
-filtered-sum held snapshot p h (k ∷ ks) = by (p k) refl (filtered-sum held snapshot p h ks)
-  where
-    by : (b : Bool) → p k ≡ b → first_sum held snapshot ks ≡ first_sum held snapshot (filter p ks)
-        → or_else (option_map (fault_with held snapshot k) (first_point held snapshot k (points k))) (first_sum held snapshot ks) ≡ first_sum held snapshot (cond b (k ∷ filter p ks) (filter p ks))
-    by true e rest = ap (or_else (option_map (fault_with held snapshot k) (first_point held snapshot k (points k)))) rest
-    by false e rest = ap (λ o. or_else (option_map (fault_with held snapshot k) o) (first_sum held snapshot ks)) (h k e) ∙ rest
-
-keys-split : (held : List Snapshot) (snapshot : Snapshot) → keys (held ++ snapshot ∷ []) ≡ keys held ++ keys (snapshot ∷ [])
-keys-split held snapshot = flat_map-append (λ (s : Snapshot). flat_map (λ (entry : Entry). filter_map (key_of entry.url) entry.functions) s) held (snapshot ∷ [])
-
-or-and : (a b : Bool) → ((a || b) && b) ≡ b
-or-and true true = refl
-or-and true false = refl
-or-and false true = refl
-or-and false false = refl
-
-own-keys : (held : List Snapshot) (snapshot : Snapshot) → filter (is_among file_order (keys (snapshot ∷ []))) (keys_in_order (held ++ snapshot ∷ [])) ≡ keys_in_order (snapshot ∷ [])
-own-keys held snapshot =
-    let both = held ++ snapshot ∷ [] in
-    let own = keys (snapshot ∷ []) in
-    let s : BTreeSet Key = record { keys = filter (is_among file_order own) (keys_in_order both) } in
-    let t : BTreeSet Key = record { keys = keys_in_order (snapshot ∷ []) } in
-    btree_set_from_contains file_total s t
-    (IsStrictlySortedBy-filter file_order (is_among file_order own) (keys_in_order both) (in_order-sorted file_order file_total (keys both)))
-    (in_order-sorted file_order file_total own)
-    (λ q.
-    among-filter file_order file_total file_exact (is_among file_order own) q (keys_in_order both)
-    ∙ ap (λ b. b && is_among file_order own q)
-    (any-in_order file_order file_exact (is_at (file_order q)) (keys both)
-    ∙ ap (list_any (is_at (file_order q))) (keys-split held snapshot)
-    ∙ list_any-append (is_at (file_order q)) (keys held) own)
-    ∙ or-and (is_among file_order (keys held) q) (is_among file_order own q)
-    ∙ sym (any-in_order file_order file_exact (is_at (file_order q)) own))
-    file_exact
-
-absent-in : (snapshot : Snapshot) (key : Key) → is_among file_order (keys (snapshot ∷ [])) key ≡ false → reports_in key snapshot ≡ []
-absent-in snapshot key none =
-    sym (new-is snapshot key)
-    ∙ absent (snapshot ∷ []) key
-    (any-in_order file_order file_exact (same_key key) (keys (snapshot ∷ []))
-    ∙ sym (any-each (is_at (file_order key)) (same_key key) (is-at key) (keys (snapshot ∷ []))) ∙ none)
-
--- the first sum past the limit is one of the snapshot's functions
-pub own-fault : (held : List Snapshot) (snapshot : Snapshot) → fits held ≡ true → sum_fault held snapshot ≡ first_sum held snapshot (keys_in_order (snapshot ∷ []))
-own-fault held snapshot fit =
-    let own = is_among file_order (keys (snapshot ∷ [])) in
-    fault-is held snapshot fit
-    ∙ filtered-sum held snapshot own (λ key none. no-reports-step held snapshot key fit (absent-in snapshot key none)) (keys_in_order (held ++ snapshot ∷ []))
-    ∙ ap (first_sum held snapshot) (own-keys held snapshot)
 
 -- where the sums with a snapshot pass the limit, there is a first one that does
 pub some-fault : (held : List Snapshot) (snapshot : Snapshot) → (AreWithin (with_entries (entries_of held) snapshot) → ⊥) → IsSome (sum_fault held snapshot)

@@ -62,7 +62,7 @@ past-offset a b offset held added first h =
     let is = sum-count a.runs b.runs offset first.from first.to in
     omega (arith, first.past)
 
-held-within : (a b : Sums) → IsWithin (sum_two a b) → IsWithin a
+pub held-within : (a b : Sums) → IsWithin (sum_two a b) → IsWithin a
 held-within a b h = (
   omega (arith, h.0),
   λ o low high.

@@ -1,16 +1,14 @@
 -- Sums as code counts them.
-use Rattle.std.specs.Prelude.{ℕ, ◌^◌, ◌-◌, ◌+◌, min, Bool, filter, List, [], ◌∷◌, filter_map, flat_map, find, Option, None, option_map, nat_lt, sum_by}
+use Rattle.std.specs.Prelude.{ℕ, ◌^◌, ◌-◌, ◌+◌, min, Bool, filter, List, [], ◌∷◌, flat_map, find, Option, None, option_map, nat_lt, sum_by}
 use Rattle.cov_model.specs.declared.report.FunctionReport.{FunctionReport}
-use Rattle.cov_model.specs.declared.snapshot.Entry.{Entry}
 use Rattle.cov_model.specs.declared.snapshot.Snapshot.{Snapshot}
 use Rattle.cov_model.specs.declared.sums.Key.{Key}
 use Rattle.cov_model.specs.declared.sums.At.{At}
 use Rattle.cov_model.specs.declared.sums.At.TheVariants.{Root, Offset}
-use Rattle.cov_text.specs.Listing.{inserted}
 use Rattle.cov_model.specs.declared.sums.SumFault.{SumFault}
 use Rattle.cov_model.specs.Nesting.{inner_count, or_else}
 use Rattle.cov_text.specs.Listing.{limit}
-use Rattle.cov_model.specs.Sums.{root_count, is_of, reports, key_of, points, file_order}
+use Rattle.cov_model.specs.Sums.{root_count, is_of, reports, points}
 
 abbrev pub capped : ℕ → ℕ
 capped n = min n (2 ^ 128 - 1)
@@ -30,13 +28,6 @@ passes before new at = nat_lt limit (sum_by (weight at) before + sum_by (weight 
 -- the first of the points at which they do
 abbrev pub first_point : List Snapshot → Snapshot → Key → List At → Option At
 first_point held snapshot key points = find (passes (reports held key) (reports_in key snapshot)) points
-
--- the keys with those of scripts
-abbrev pub with_script : List Key → List ℕ → List FunctionReport → List Key
-with_script keys url reports = inserted file_order keys (filter_map (key_of url) reports)
-
-abbrev pub with_scripts : List Key → List Entry → List Key
-with_scripts keys entries = inserted file_order keys (flat_map (λ entry. filter_map (key_of entry.url) entry.functions) entries)
 
 -- what is told of a sum past the limit
 abbrev pub fault_with : List Snapshot → Snapshot → Key → At → SumFault

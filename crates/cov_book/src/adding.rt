@@ -96,7 +96,7 @@ fn add_report<L: Ledger>(
 }
 
 /// The sums of a function with those of one more report.
-fn sums_with<L: Ledger>(
+pub fn sums_with<L: Ledger>(
     alloc: Global,
     functions: &BTreeMap<Key, Sums>,
     changed: &BTreeMap<Key, Sums>,
