@@ -1,0 +1,5 @@
+pub mod Reading
+pub mod Turns
+pub mod Lists
+pub mod Snapshots
+pub mod Whole

@@ -1,0 +1,9 @@
+use Rattle.serde_json.specs.Data.{object}
+use Rattle.snapshot_reader.proofs.Reading.{if_some_weaker}
+use Rattle.snapshot_reader.proofs.Snapshots.{range_is}
+use Rattle.snapshot_reader.proofs.range.RangeListed.read.Goals as goal
+
+pub returns-clause-ok : goal.returns-clause-ok
+returns-clause-ok c =
+    let read = c.in_ok-found.ensures.ok in
+    if_some_weaker c.range_in.result (λ x is. (object read.0, read.1, range_is read.0 c.in_ok-found.found x read.2 is)) c.range_in.ensures

@@ -1,0 +1,98 @@
+//! Lists and objects, whatever their items and members are read as.
+ghost use Rattle.std.specs.Prelude.{◌<◌, ◌≤◌, length, IfSome, OnSome};
+ghost use Rattle.serde_json.specs.Data.{Data, Items as DataItems, Members, no_members, array, object, put};
+ghost use Rattle.snapshot_reader.specs.Reads.{Begins, BeginsItems, BeginsMembers};
+ghost use Rattle.snapshot_reader.specs.Shape.{AreGiven};
+
+use cov_text::Items;
+use json::{Reader, Token};
+use std::alloc::Global;
+
+/// What is read of one value, as an item of a list.
+pub trait Listed: Sized + Drop {
+    ghost gives: { Self → Data → Type 0 };
+
+    fn read(alloc: Global, reader: &mut Reader<'_>, depth: usize) -> Option<Self>
+        ensures ok { IfSome result (λ x. (d : Data)
+            × Begins depth reader.old d reader.new × gives x d) }
+        ensures shorter { OnSome result (length reader.new < length reader.old) };
+}
+
+/// What is read of an object, a member at a time.
+pub trait Membered: Sized + Drop {
+    ghost holds: { Self → Members → Type 0 };
+
+    fn none() -> Self
+        ensures { holds result no_members };
+
+    fn take(self, alloc: Global, key: &str, reader: &mut Reader<'_>, depth: usize) -> Option<Self>
+        ensures ok { IfSome result (λ new. (d : Data) × Begins depth reader.old d reader.new
+            × ((ms : Members) → holds self ms → holds new (put key.now d ms))) }
+        ensures shorter { OnSome result (length reader.new < length reader.old) };
+}
+
+fn list_items<T: Listed>(alloc: Global, reader: &mut Reader<'_>, depth: usize) -> Option<Items<T>>
+    ensures ok { IfSome result (λ xs. (ds : DataItems)
+        × BeginsItems depth reader.old ds reader.new × AreGiven T.gives xs ds) }
+    ensures shorter { OnSome result (length reader.new ≤ length reader.old) }
+{
+    let mut found = Items::new(alloc);
+    'items: while !reader.take_end_array() {
+        let item = T::read(alloc, reader, depth)?;
+        if found.push(item).is_err() {
+            return None;
+        }
+    }
+    Some(found)
+}
+
+/// The list that is next.
+pub fn read_list<T: Listed>(
+    alloc: Global,
+    reader: &mut Reader<'_>,
+    depth: usize,
+) -> Option<Items<T>>
+    ensures ok { IfSome result (λ xs. (ds : DataItems)
+        × Begins depth reader.old (array ds) reader.new × AreGiven T.gives xs ds) }
+    ensures shorter { OnSome result (length reader.new < length reader.old) }
+{
+    let token = reader.next()?;
+    let Token::BeginArray = token else {
+        return None;
+    };
+    if depth == 0 {
+        return None;
+    }
+    list_items(alloc, reader, depth - 1)
+}
+
+fn object_members<T: Membered>(alloc: Global, reader: &mut Reader<'_>, depth: usize) -> Option<T>
+    ensures ok { IfSome result (λ x. (ms : Members)
+        × BeginsMembers depth reader.old ms reader.new × T.holds x ms) }
+    ensures shorter { OnSome result (length reader.new ≤ length reader.old) }
+{
+    let mut found = T::none();
+    'members: loop {
+        match reader.next_key() {
+            Ok(Some(key)) => found = found.take(alloc, key, reader, depth)?,
+            Ok(None) => return Some(found),
+            Err(_) => return None,
+        }
+    }
+}
+
+/// The object that is next.
+pub fn read_object<T: Membered>(alloc: Global, reader: &mut Reader<'_>, depth: usize) -> Option<T>
+    ensures ok { IfSome result (λ x. (ms : Members)
+        × Begins depth reader.old (object ms) reader.new × T.holds x ms) }
+    ensures shorter { OnSome result (length reader.new < length reader.old) }
+{
+    let token = reader.next()?;
+    let Token::BeginObject = token else {
+        return None;
+    };
+    if depth == 0 {
+        return None;
+    }
+    object_members(alloc, reader, depth - 1)
+}
