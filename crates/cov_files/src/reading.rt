@@ -6,11 +6,13 @@ ghost use Rattle.cov_model.specs.Reading as spec;
 ghost use Rattle.source_maps.specs.Entries as entries;
 ghost use Rattle.cov_files.specs.Maps.{maps_reading};
 ghost use Rattle.cov_files.specs.Answers.{GivesValue, GivesEntries};
+ghost use Rattle.snapshot_reader.specs.Snapshots.{text_has_maps};
 
 use cov_messages::snapshot_of;
 use cov_model::{Items, ShapeFault, Snapshot, TextFault};
 use json_shapes::{ParseFault, parse};
 use serde_json::Value;
+use snapshot_reader::{ReadText, fast_reading, fast_text};
 use source_maps::{MapEntry, entries_of};
 use std::alloc::Global;
 
@@ -20,6 +22,9 @@ use std::alloc::Global;
 pub fn read_snapshot(alloc: Global, bytes: &[u8]) -> Result<Snapshot, TextFault>
     ensures { GivesText result (spec.reading bytes.now) }
 {
+    if let Some(snapshot) = fast_reading(alloc, bytes) {
+        return Ok(snapshot);
+    }
     let value = value_of(alloc, bytes)?;
     snapshot_in(alloc, &value)
 }
@@ -42,8 +47,33 @@ pub fn read_text(alloc: Global, bytes: &[u8]) -> Result<(Snapshot, Items<MapEntr
     ensures maps { IfOk result (λ both. maps_reading bytes.now ≡ Ok (map entries.said both.1)) }
     ensures fails { IfErr result (λ fault. TextFails fault (spec.reading bytes.now)) }
 {
+    if let Some(read) = fast_text(alloc, bytes) {
+        return with_entries(alloc, bytes, read);
+    }
     let value = value_of(alloc, bytes)?;
     let snapshot = snapshot_in(alloc, &value)?;
+    let entries = entries_in(alloc, &value)?;
+    Ok((snapshot, entries))
+}
+
+// What was read of a text, with what the text says of maps. Only where it has a member of them is its value made.
+#[tactic(auto, unfolding(cov_model::specs::Reading::reading, crate::specs::Maps::maps_reading))]
+fn with_entries(
+    alloc: Global,
+    bytes: &[u8],
+    read: ReadText,
+) -> Result<(Snapshot, Items<MapEntry>), TextFault>
+    requires { (spec.reading bytes.now ≡ Ok read.snapshot)
+        × (read.has_maps ≡ text_has_maps bytes.now) }
+    ensures snapshot { IfOk result (λ both. spec.reading bytes.now ≡ Ok both.0) }
+    ensures maps { IfOk result (λ both. maps_reading bytes.now ≡ Ok (map entries.said both.1)) }
+    ensures fails { IfErr result (λ fault. TextFails fault (spec.reading bytes.now)) }
+{
+    let ReadText { snapshot, has_maps } = read;
+    if !has_maps {
+        return Ok((snapshot, Items::new(alloc)));
+    }
+    let value = value_of(alloc, bytes)?;
     let entries = entries_in(alloc, &value)?;
     Ok((snapshot, entries))
 }

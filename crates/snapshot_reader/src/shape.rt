@@ -10,8 +10,10 @@ use std::alloc::Global;
 
 /// What is read of one value, as an item of a list.
 pub trait Listed: Sized + Drop {
+    /// What the value says of the data that it was read of.
     ghost gives: { Self → Data → Type 0 };
 
+    /// The value that is next, nested no deeper than `depth`; `None` says nothing.
     fn read(alloc: Global, reader: &mut Reader<'_>, depth: usize) -> Option<Self>
         ensures ok { IfSome result (λ x. (d : Data)
             × Begins depth reader.old d reader.new × gives x d) }
@@ -20,17 +22,21 @@ pub trait Listed: Sized + Drop {
 
 /// What is read of an object, a member at a time.
 pub trait Membered: Sized + Drop {
+    /// What was found says of the members that came so far.
     ghost holds: { Self → Members → Type 0 };
 
+    /// What is found of no members.
     fn none() -> Self
         ensures { holds result no_members };
 
+    /// Takes the value that is next as the member at a key, in the place of an earlier one; `None` says nothing.
     fn take(self, alloc: Global, key: &str, reader: &mut Reader<'_>, depth: usize) -> Option<Self>
         ensures ok { IfSome result (λ new. (d : Data) × Begins depth reader.old d reader.new
             × ((ms : Members) → holds self ms → holds new (put key.now d ms))) }
         ensures shorter { OnSome result (length reader.new < length reader.old) };
 }
 
+// The items that are left of a list.
 fn list_items<T: Listed>(alloc: Global, reader: &mut Reader<'_>, depth: usize) -> Option<Items<T>>
     ensures ok { IfSome result (λ xs. (ds : DataItems)
         × BeginsItems depth reader.old ds reader.new × AreGiven T.gives xs ds) }
@@ -66,6 +72,7 @@ pub fn read_list<T: Listed>(
     list_items(alloc, reader, depth - 1)
 }
 
+// The members that are left of an object.
 fn object_members<T: Membered>(alloc: Global, reader: &mut Reader<'_>, depth: usize) -> Option<T>
     ensures ok { IfSome result (λ x. (ms : Members)
         × BeginsMembers depth reader.old ms reader.new × T.holds x ms) }
