@@ -1,3 +1,9 @@
 pub mod Lists
 pub mod One
 pub mod Steps
+pub mod Found
+pub mod Nests
+pub mod Counting
+pub mod Levels
+pub mod Stacked
+pub mod Shown

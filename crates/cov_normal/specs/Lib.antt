@@ -1,2 +1,5 @@
 pub mod Parts
 pub mod Laws
+pub mod Nests
+pub mod NestedLaws
+pub mod Stack

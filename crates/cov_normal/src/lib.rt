@@ -6,6 +6,8 @@
 
 pub mod laws;
 mod list;
+mod nested_list;
+mod nesting;
 mod shape;
 #[cfg(test)]
 mod tests;
@@ -13,4 +15,5 @@ mod tests;
 pub use cov_model::{Items, Range};
 pub use cov_steps::Runs;
 pub use list::{normal, runs_of};
+pub use nested_list::{nested, runs_of_nested};
 pub use shape::is_normal;

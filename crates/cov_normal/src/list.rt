@@ -1,5 +1,6 @@
 //! From runs to the normal list, and back.
-ghost use Rattle.std.specs.Prelude.{◌≡◌, ◌<◌, ◌∷◌, IsTrue, IfOk};
+ghost use Rattle.std.specs.Prelude.{◌≡◌, ◌<◌, ◌∷◌, None, IsTrue, IfOk};
+ghost use Rattle.cov_model.specs.Nesting.{range_fault};
 ghost use Rattle.cov_model.specs.Normal.{flat, is_flat};
 ghost use Rattle.cov_steps.specs.Runs.{AreRuns, count_in, counted};
 ghost use Rattle.cov_normal.specs.Parts.{counts_otherwise, told};
@@ -65,6 +66,14 @@ fn is_told(root: Range, run: Range) -> bool
 /// with these ranges. The list is one that `is_normal` finds.
 pub fn runs_of(alloc: Global, ranges: &[Range]) -> Result<Runs, AllocError>
     requires { IsTrue (is_flat ranges.now) }
+    ensures { IfOk result (λ runs. runs ≡ counted ranges.now) }
+{
+    counts_of(alloc, ranges)
+}
+
+// The runs of ranges that nest.
+pub(crate) fn counts_of(alloc: Global, ranges: &[Range]) -> Result<Runs, AllocError>
+    requires { range_fault ranges.now ≡ None }
     ensures { IfOk result (λ runs. runs ≡ counted ranges.now) }
 {
     let report = FunctionReport {

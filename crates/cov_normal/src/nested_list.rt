@@ -1,0 +1,63 @@
+//! From runs to the nested normal list, and back.
+ghost use Rattle.std.specs.Prelude.{◌≡◌, ◌↔◌, ◌∷◌, ◌<◌, ℕ, IsTrue, IfOk};
+ghost use Rattle.cov_model.specs.Nested.{nested};
+ghost use Rattle.cov_steps.specs.Runs.{count_in, counted};
+ghost use Rattle.std.specs.Prelude.{nat_eq};
+ghost use Rattle.std.specs.HashMap.{get};
+ghost use Rattle.cov_normal.specs.NestedLaws.{IsNested};
+ghost use Rattle.cov_normal.specs.Stack.{IsNesting, AllShow, AreEndToEnd};
+
+use crate::list::counts_of;
+use crate::nesting::Nesting;
+use cov_model::{Items, Range, Steps};
+use cov_steps::Runs;
+use std::alloc::{AllocError, Global};
+use std::marker::Brand;
+use std::sync::ledger::{Blank, Ledger};
+
+/// The nested normal list of a root and its counts: the root with the count `root`, then the ranges inside it. Inside a
+/// range, one begins at the first offset with another count than the range's, and goes up to the last offset with that
+/// count before the range's own comes again; what is left on both sides is told in the same way. The runs are those of
+/// this start and end, in UTF-16 units, and are gone through once, with a stack of the ranges that may go on.
+pub fn nested(
+    alloc: Global,
+    start: u32,
+    end: u32,
+    root: u64,
+    runs: &Runs,
+) -> Result<Items<Range>, AllocError>
+    requires starts { runs.now.start ≡ start }
+    requires ends { runs.now.end ≡ end }
+    ensures { IfOk result (λ ranges. ranges ≡ nested start end root (count_in runs.now.runs)) }
+{
+    let nesting = nesting_of::<Brand>(alloc, root, runs, Blank::new(1))?;
+    Ok(Items::from_vec(nesting.finish(end)))
+}
+
+// The ranges of all runs, with a counter of steps that nobody reads.
+fn nesting_of<L: Ledger>(
+    alloc: Global,
+    root: u64,
+    runs: &Runs,
+    blank: Blank,
+) -> Result<Nesting, AllocError>
+    requires name { blank.name ≡ L.name }
+    requires parts { (blank.parts ≡ L.parts) × (0 < L.parts) }
+    ensures { IfOk result (λ nesting. IsNesting (count_in runs.now.runs) runs.now.start root runs.now.end nesting.ranges.items nesting.stack.items (get nat_eq nesting.heights)) }
+{
+    let mut steps: Steps<L> = Steps::new(blank);
+    let mut nesting = Nesting::new(alloc, runs.start(), root)?;
+    for i in 0..runs.len() {
+        nesting.go_on(runs.get(i, &mut steps))?;
+    }
+    Ok(nesting)
+}
+
+/// The runs of a nested normal list: at each offset of its root the innermost count, as `Runs::of` gives them of a
+/// report with these ranges. The list is one that `is_nested` finds.
+pub fn runs_of_nested(alloc: Global, ranges: &[Range]) -> Result<Runs, AllocError>
+    requires { IsNested ranges.now }
+    ensures { IfOk result (λ runs. runs ≡ counted ranges.now) }
+{
+    counts_of(alloc, ranges)
+}

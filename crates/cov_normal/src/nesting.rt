@@ -1,0 +1,107 @@
+//! Nested ranges that grow with the runs of a function.
+ghost use Rattle.std.specs.Prelude.{◌≡◌, ℕ, ◌++◌, ◌∷◌, [], ◌<◌, Option, Some, suc, length, slice_get, slice_set, nat_eq, take, OnOk, IfOk};
+ghost use Rattle.std.specs.HashMap.{get};
+ghost use Rattle.cov_model.specs.declared.report.Range.{Range};
+ghost use Rattle.cov_model.specs.Normal.{range};
+ghost use Rattle.cov_normal.specs.Stack.{IsNesting, Shows, height_in, root_ended};
+
+use cov_model::Range;
+use std::alloc::{AllocError, Global};
+use std::collections::HashMap;
+
+// The ranges of one root, each ahead of those inside it, as far as its runs were read.
+#[derive(Drop)]
+pub(crate) struct Nesting {
+    ranges: Vec<Range>,
+    // The places in `ranges` of those that may go on, the root's first and each inside the one before it.
+    stack: Vec<usize>,
+    // For each count that came, where in `stack` a range with it was put last.
+    heights: HashMap<u64, usize>,
+}
+
+impl Nesting {
+    // A root where nothing was read: it ends where it starts.
+    pub(crate) fn new(alloc: Global, start: u32, count: u64) -> Result<Nesting, AllocError>
+        ensures { IfOk result (λ nesting. (f : ℕ → ℕ) → IsNesting f start count start nesting.ranges.items nesting.stack.items (get nat_eq nesting.heights)) }
+    {
+        let mut ranges = Vec::new(alloc);
+        ranges.push(Range {
+            start,
+            end: start,
+            count,
+        })?;
+        let mut stack = Vec::new(alloc);
+        stack.push(0)?;
+        let mut heights = HashMap::new(alloc);
+        heights.insert(count, 0)?;
+        Ok(Nesting {
+            ranges,
+            stack,
+            heights,
+        })
+    }
+
+    // Reads one run more. A range with its count that may go on does, and those above it on the stack are over; where
+    // there is none, a range begins.
+    pub(crate) fn go_on(&mut self, run: Range) -> Result<(), AllocError>
+        ensures { OnOk result ((f : ℕ → ℕ) (start count : ℕ) → IsNesting f start count run.start self.old.ranges.items self.old.stack.items (get nat_eq self.old.heights) → Shows f run → IsNesting f start count run.end self.new.ranges.items self.new.stack.items (get nat_eq self.new.heights)) }
+    {
+        match self.height_of(run.count) {
+            Some(height) => self.grow(height, run.end),
+            None => self.begin(run)?,
+        }
+        Ok(())
+    }
+
+    // How high on the stack the range with this count is, if there is one.
+    fn height_of(&self, count: u64) -> Option<usize>
+        ensures { result ≡ height_in self.now.ranges.items self.now.stack.items count (get nat_eq self.now.heights count) }
+    {
+        let height = self.heights.get(&count).copied()?;
+        let place = self.stack.get(height).copied()?;
+        let range = self.ranges.get(place).copied()?;
+        if range.count == count {
+            Some(height)
+        } else {
+            None
+        }
+    }
+
+    // Lets the range at this height go on up to an end.
+    fn grow(&mut self, height: usize, end: u32)
+        requires { height < length self.old.stack.items }
+        ensures heights { self.new.heights ≡ self.old.heights }
+        ensures kept { self.new.stack.items ≡ take (suc height) self.old.stack.items }
+        ensures ended { (place : ℕ) (r : Range) → slice_get self.old.stack.items height ≡ Some place → slice_get self.old.ranges.items place ≡ Some r → self.new.ranges.items ≡ slice_set self.old.ranges.items place (range r.start end r.count) }
+    {
+        let place = self.stack[height];
+        self.stack.truncate(height + 1);
+        if let Some(range) = self.ranges.get_mut(place) {
+            range.end = end;
+        }
+    }
+
+    // Lists a range that goes on from the run.
+    fn begin(&mut self, run: Range) -> Result<(), AllocError>
+        ensures ranges { OnOk result (self.new.ranges.items ≡ self.old.ranges.items ++ run ∷ []) }
+        ensures stack { OnOk result (self.new.stack.items ≡ self.old.stack.items ++ length self.old.ranges.items ∷ []) }
+        ensures here { OnOk result (get nat_eq self.new.heights run.count ≡ Some (length self.old.stack.items)) }
+        ensures others { OnOk result ((count : ℕ) → ¬ (count ≡ run.count) → get nat_eq self.new.heights count ≡ get nat_eq self.old.heights count) }
+    {
+        self.heights.insert(run.count, self.stack.len())?;
+        self.stack.push(self.ranges.len())?;
+        self.ranges.push(run)?;
+        Ok(())
+    }
+
+    // The ranges, with the root's end.
+    pub(crate) fn finish(self, end: u32) -> Vec<Range>
+        ensures { result.items ≡ root_ended end self.ranges.items }
+    {
+        let Nesting { mut ranges, .. } = self;
+        if let Some(root) = ranges.first_mut() {
+            root.end = end;
+        }
+        ranges
+    }
+}
