@@ -1,6 +1,6 @@
 use Rattle.std.proofs.Common.{ap, ◌∙◌}
 use Rattle.serde_json.specs.Written.{compact_text, has_float}
-use Rattle.cov_files.proofs.Floats.{none-result}
+use Rattle.cov_messages.proofs.Floats.{none-result}
 use Rattle.cov_files.proofs.writing.snapshot_text.Goals as goal
 
 pub returns : goal.returns

@@ -1,0 +1,9 @@
+use Rattle.std.proofs.Common.{ap, ◌∙◌}
+use Rattle.serde_json.specs.Written.{compact_text, has_float}
+use Rattle.cov_messages.proofs.Floats.{none-reply}
+use Rattle.cov_messages.proofs.reply.reply_text.Goals as goal
+
+pub returns : goal.returns
+returns c =
+    let is = c.in_ok-value.ensures in
+    c.in_ok-text.ensures.text (ap has_float is ∙ none-reply c.args.id c.args.reply.now) ∙ ap compact_text is
