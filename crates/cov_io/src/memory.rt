@@ -1,11 +1,11 @@
 //! Stores and sinks in memory, which tell all that they hold.
-ghost use Rattle.std.specs.Prelude.{◌≡◌, ◌++◌, ◌≤◌, IsTrue, IsFalse, Some, map, option_map, string_bytes, take, OnOk, OnErr, IfOk};
+ghost use Rattle.std.specs.Prelude.{◌≡◌, [], Some, length, map, max, option_map, string_bytes, take, IfOk};
 ghost use Rattle.cov_io.specs.Told.{bytes_at, is_among, behind_front, name_in, names_in};
 ghost use Rattle.cov_io.specs.Told as told;
-ghost use Rattle.cov_io.specs.Causes.{Rose};
+ghost use Rattle.cov_io.specs.Fails.{failing_at};
 ghost use Rattle.cov_io.specs.Memory.{files_of};
 
-use crate::{Sink, SinkFault, Store, StoreFault};
+use crate::{Failing, Sink, SinkFault, Store, StoreFault};
 use cov_text::{Items, Text};
 use std::alloc::{AllocError, Global};
 use std::collections::BTreeSet;
@@ -28,24 +28,22 @@ pub struct SureStore {
 #[derive(Debug, Drop)]
 pub struct MemStore {
     pub inner: SureStore,
-    pub calls: u64,
-    pub failing: Items<u64>,
-    pub faults: u64,
+    pub failing: Failing,
 }
 
 /// A sink in memory that never fails.
 #[derive(Debug, Drop)]
 pub struct SureSink {
     pub bytes: Items<u8>,
+    /// The length of the longest piece that it was handed, 0 at first.
+    pub longest: usize,
 }
 
-/// A sink in memory whose calls fail by a list of their numbers, from 0.
+/// A sink in memory whose calls fail by a list of their numbers, from 0. A call that fails appends nothing.
 #[derive(Debug, Drop)]
 pub struct MemSink {
-    pub bytes: Items<u8>,
-    pub calls: u64,
-    pub failing: Items<u64>,
-    pub faults: u64,
+    pub inner: SureSink,
+    pub failing: Failing,
 }
 
 impl SureStore {
@@ -142,20 +140,15 @@ impl Store for SureStore {
 }
 
 impl MemStore {
-    // Counts a call, and says whether it is one that fails.
-    fn fails_now(&mut self) -> bool
-        ensures inner { self.new.inner ≡ self.old.inner }
-        ensures rose { IsTrue result → Rose self.old.faults self.new.faults }
-        ensures later { self.old.faults ≤ self.new.faults }
-        ensures kept { IsFalse result → self.new.faults ≡ self.old.faults }
+    /// The store, where the calls of these numbers fail.
+    pub fn new(inner: SureStore, numbers: Items<u64>) -> MemStore
+        ensures inner { result.inner ≡ inner }
+        ensures failing { result.failing ≡ failing_at numbers }
     {
-        let call = self.calls;
-        self.calls = call.saturating_add(1);
-        let fails = is_listed(self.failing.as_slice(), call);
-        if fails {
-            self.faults = self.faults.saturating_add(1);
+        MemStore {
+            inner,
+            failing: Failing::new(numbers),
         }
-        fails
     }
 }
 
@@ -164,17 +157,17 @@ impl Store for MemStore {
 
     ghost folders = { λ s. Some s.inner.folders };
 
-    ghost faults = { λ s. s.faults };
+    ghost faults = { λ s. s.failing.faults };
 
     fn list(&mut self, alloc: Global, folder: &str) -> Result<Vec<String>, StoreFault> {
-        if self.fails_now() {
+        if self.failing.fails_now() {
             return Err(StoreFault::Failed);
         }
         self.inner.list(alloc, folder)
     }
 
     fn read(&mut self, alloc: Global, path: &str, most: usize) -> Result<Vec<u8>, StoreFault> {
-        if self.fails_now() {
+        if self.failing.fails_now() {
             return Err(StoreFault::Failed);
         }
         self.inner.read(alloc, path, most)
@@ -192,39 +185,66 @@ fn copied(alloc: Global, bytes: &[u8], most: usize) -> Result<Vec<u8>, AllocErro
     }
 }
 
+impl SureSink {
+    /// A sink that holds nothing yet.
+    pub fn new(alloc: Global) -> SureSink
+        ensures bytes { result.bytes ≡ [] }
+        ensures longest { result.longest ≡ 0 }
+    {
+        SureSink {
+            bytes: Items::new(alloc),
+            longest: 0,
+        }
+    }
+
+    // Keeps the length of a piece that is handed over.
+    fn note(&mut self, piece: &[u8])
+        ensures bytes { self.new.bytes ≡ self.old.bytes }
+        ensures longest { self.new.longest ≡ max self.old.longest (length piece.now) }
+    {
+        self.longest = self.longest.max(piece.len());
+    }
+}
+
+impl MemSink {
+    /// A sink that holds nothing yet, whose calls of these numbers fail.
+    pub fn new(alloc: Global, numbers: Items<u64>) -> MemSink
+        ensures bytes { result.inner.bytes ≡ [] }
+        ensures longest { result.inner.longest ≡ 0 }
+        ensures failing { result.failing ≡ failing_at numbers }
+    {
+        MemSink {
+            inner: SureSink::new(alloc),
+            failing: Failing::new(numbers),
+        }
+    }
+}
+
 impl Sink for SureSink {
     ghost held = { λ s. Some s.bytes };
+
+    ghost longest = { λ s. Some s.longest };
 
     ghost faults = { λ _. 0 };
 
     fn write(&mut self, piece: &[u8]) -> Result<(), SinkFault> {
-        Ok(append(&mut self.bytes, piece)?)
+        self.note(piece);
+        Ok(self.bytes.extend_from_slice(piece)?)
     }
 }
 
 impl Sink for MemSink {
-    ghost held = { λ s. Some s.bytes };
+    ghost held = { λ s. Some s.inner.bytes };
 
-    ghost faults = { λ s. s.faults };
+    ghost longest = { λ s. Some s.inner.longest };
+
+    ghost faults = { λ s. s.failing.faults };
 
     fn write(&mut self, piece: &[u8]) -> Result<(), SinkFault> {
-        let call = self.calls;
-        self.calls = call.saturating_add(1);
-        if is_listed(self.failing.as_slice(), call) {
-            self.faults = self.faults.saturating_add(1);
+        if self.failing.fails_now() {
+            self.inner.note(piece);
             return Err(SinkFault::Failed);
         }
-        Ok(append(&mut self.bytes, piece)?)
+        self.inner.write(piece)
     }
-}
-
-fn is_listed(numbers: &[u64], number: u64) -> bool {
-    numbers.iter().any(|n| *n == number)
-}
-
-fn append(bytes: &mut Items<u8>, piece: &[u8]) -> Result<(), AllocError>
-    ensures ok { OnOk result (bytes.new ≡ bytes.old ++ piece.now) }
-    ensures err { OnErr result (bytes.new ≡ bytes.old) }
-{
-    bytes.extend_from_slice(piece)
 }

@@ -1,5 +1,9 @@
-//! The real folder and stream.
-use crate::{FolderStore, Sink, Store, StoreFault, StreamSink};
+//! The real folder, stream and child, and a net in memory.
+use crate::{
+    ChildSpawner, FolderStore, Got, Link, MemNet, MemSpawner, Net, Prepared, Sink, Spawner, Store,
+    StoreFault, StreamSink,
+};
+use cov_text::{Items, Text};
 use std::fs;
 use std::os::unix::fs::symlink;
 use std::process::Command;
@@ -62,5 +66,40 @@ fn a_stream_gets_each_byte(rt: HostRuntime) -> Result<(), Fail> {
         sink.write("two\n".as_bytes())?;
     }
     assert!(rt; written.as_slice() == "one two\n".as_bytes());
+    Ok(())
+}
+
+#[test]
+fn a_program_ends_with_its_status(rt: HostRuntime) -> Result<(), Fail> {
+    let alloc = rt.alloc();
+    let mut words = Vec::new(alloc);
+    for word in ["sh", "-c", "exit 3"] {
+        words.push(String::from_str(alloc, word)?)?;
+    }
+    let mut real = ChildSpawner::new(rt);
+    assert_eq!(rt; real.run(alloc, words.as_slice())?, 3);
+    let mut planned = MemSpawner::new(alloc, 5, Items::new(alloc));
+    assert_eq!(rt; planned.run(alloc, words.as_slice())?, 5);
+    Ok(())
+}
+
+#[test]
+fn a_link_in_memory_gives_its_texts(rt: HostRuntime) -> Result<(), Fail> {
+    let alloc = rt.alloc();
+    let mut texts = Items::new(alloc);
+    texts.push(Text::from_text(alloc, "one")?)?;
+    let mut coming = Vec::new(alloc);
+    coming.push(Prepared {
+        texts,
+        failing: Items::new(alloc),
+    })?;
+    let mut net = MemNet::new(alloc, coming, Items::new(alloc));
+    let mut link = net.dial(alloc, "h:1/x")?;
+    link.send(alloc, "two")?;
+    assert!(rt; matches!(link.recv(alloc)?, Got::Text(text) if text.as_str() == "one"));
+    assert!(rt; matches!(link.recv(alloc)?, Got::Closed));
+    net.hang_up(link)?;
+    assert_eq!(rt; net.closed, 1);
+    assert!(rt; net.accept(alloc).is_err());
     Ok(())
 }
