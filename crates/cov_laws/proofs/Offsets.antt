@@ -20,7 +20,7 @@ use Rattle.cov_model.specs.declared.snapshot.TextFault.TheVariants.{TooLong, Syn
 use Rattle.cov_model.specs.Nesting.{range_fault}
 use Rattle.json_shapes.specs.Shapes.{◌>>=◌, or_fault, whole, offset_of, parsed}
 use Rattle.cov_model.specs.Reading.{nowhere, at_script, at_function, at_range, taken_as, member_as, each_item, range_of, nested_or_fault, report_of, entry_of, snapshot_of, shaped, reading}
-use Rattle.cov_laws.specs.Laws.{HasOffsets}
+use Rattle.cov_laws.specs.Laws.{AreRead, IsRead, HasOffsets, ReadingsAreRead}
 
 is-ok : {A E : Type 0} (a b : A) → ◌≡◌ {A = Result A E} (Ok a) (Ok b) → a ≡ b
 is-ok a b e = cc
@@ -149,14 +149,20 @@ shaped-from : (r : Result Snapshot ShapeFault) (snapshot : Snapshot) → shaped 
 shaped-from (Ok s) snapshot h = ap Ok (is-ok s snapshot h)
 shaped-from (Err e) snapshot h = absurd cc
 
-value-read : (o : Option Data) (snapshot : Snapshot) → (or_fault Syntax o >>= λ d. shaped (snapshot_of d)) ≡ Ok snapshot → AllByRecursion IsEntryInRange snapshot
-value-read None snapshot h = absurd cc
-value-read (Some d) snapshot h = shape-read d snapshot (shaped-from (snapshot_of d) snapshot h)
+-- ---- what was read
 
-sized : (long : Bool) (o : Option Data) (snapshot : Snapshot) → cond long (Err TooLong) (or_fault Syntax o >>= λ d. shaped (snapshot_of d)) ≡ Ok snapshot → AllByRecursion IsEntryInRange snapshot
+value-read : (o : Option Data) (snapshot : Snapshot) → (or_fault Syntax o >>= λ d. shaped (snapshot_of d)) ≡ Ok snapshot → IsRead snapshot
+value-read None snapshot h = absurd cc
+value-read (Some d) snapshot h = (d, shaped-from (snapshot_of d) snapshot h)
+
+sized : (long : Bool) (o : Option Data) (snapshot : Snapshot) → cond long (Err TooLong) (or_fault Syntax o >>= λ d. shaped (snapshot_of d)) ≡ Ok snapshot → IsRead snapshot
 sized true o snapshot h = absurd cc
 sized false o snapshot h = value-read o snapshot h
 
-pub has_offsets : (bytes : List ℕ) (snapshot : Snapshot) → reading bytes ≡ Ok snapshot → HasOffsets (snapshot ∷ [])
+pub is_read : ReadingsAreRead
 unfolding reading
-has_offsets bytes snapshot h = (sized (nat_lt max_text (length bytes)) (parsed bytes) snapshot h, tt)
+is_read bytes snapshot h = sized (nat_lt max_text (length bytes)) (parsed bytes) snapshot h
+
+pub read-offsets : (snapshots : List Snapshot) → AreRead snapshots → HasOffsets snapshots
+read-offsets [] h = tt
+read-offsets (snapshot ∷ snapshots) h = (shape-read h.0.0 snapshot h.0.1, read-offsets snapshots h.1)

@@ -8,6 +8,7 @@ use Rattle.cov_book.proofs.Agreeing.{held-agree, come-to-one}
 use Rattle.cov_book.proofs.Shards.{merges_in_parts}
 use Rattle.cov_laws.specs.Laws.{OneFile}
 use Rattle.cov_laws.proofs.Written.{one-text}
+use Rattle.cov_laws.proofs.Offsets.{read-offsets}
 use Rattle.cov_laws.proofs.Small.{small-scripts}
 
 -- a list has the sums of its scripts
@@ -19,7 +20,7 @@ unfolding file
 one_file one other fit also h k = (
   λ same.
       sym (sums-of-scripts one)
-      ∙ ap (λ s. held_of (s ∷ [])) (one-text (scripts one) (scripts other) (small-scripts one fit h) (small-scripts other also k) same)
+      ∙ ap (λ s. held_of (s ∷ [])) (one-text (scripts one) (scripts other) (small-scripts one fit (read-offsets one h)) (small-scripts other also (read-offsets other k)) same)
       ∙ sums-of-scripts other,
   λ same. (come-to-one one other (held-agree one other same)).file,
 )
