@@ -3,10 +3,10 @@ ghost use Rattle.std.specs.Prelude.{◌≡◌, IfOk, IfErr};
 ghost use Rattle.cov_io.specs.declared.link.LinkFault.TheVariants.{Failed};
 ghost use Rattle.cov_io.specs.Causes.{HasCause};
 ghost use Rattle.cov_io.specs.Fails.{failing_at};
-ghost use Rattle.cov_io.specs.Links.{Makes, IsNew, counted_if};
+ghost use Rattle.cov_io.specs.Links.{Makes, IsNew};
 ghost use Rattle.cov_io.specs.MemoryLinks.{sure_state, new_link, linked, net_state, new_net};
 
-use crate::{Failing, Got, Link, LinkFault, Net};
+use crate::{Failing, Got, Link, LinkFault, Net, counted};
 use cov_text::{Items, Text};
 use std::alloc::{AllocError, Global};
 
@@ -103,13 +103,6 @@ fn link_of(alloc: Global, prepared: Prepared) -> MemLink
     }
 }
 
-// A count that one case raises.
-fn counted(case: bool, count: u64) -> u64
-    ensures { result ≡ counted_if case count }
-{
-    if case { count.saturating_add(1) } else { count }
-}
-
 impl Link for SureLink {
     ghost state = { sure_state };
 
@@ -160,7 +153,7 @@ impl Net for MemNet {
 
     ghost faults = { λ s. s.failing.faults };
 
-    fn listen(&mut self, _alloc: Global, port: u16) -> Result<u16, LinkFault> {
+    fn listen(&mut self, port: u16) -> Result<u16, LinkFault> {
         if self.failing.fails_now() {
             return Err(LinkFault::Failed);
         }

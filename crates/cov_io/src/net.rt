@@ -7,6 +7,13 @@ ghost use Rattle.cov_io.specs.Links.{NetState, Listens, Makes, TakesBack, IsNew,
 use crate::{Link, LinkFault};
 use std::alloc::{AllocError, Global};
 
+/// A count of failures or of closed links, which one case raises. It stands still at the greatest `u64`.
+pub fn counted(case: bool, count: u64) -> u64
+    ensures { result ≡ counted_if case count }
+{
+    if case { count.saturating_add(1) } else { count }
+}
+
 /// What links are made of, by listening or by dialling.
 pub trait Net {
     /// The links that it makes.
@@ -21,7 +28,7 @@ pub trait Net {
     ghost faults: { Self → ℕ };
 
     /// Listens on a port of this machine, and answers the port in use. At 0 the system picks one.
-    fn listen(&mut self, alloc: Global, port: u16) -> Result<u16, LinkFault>
+    fn listen(&mut self, port: u16) -> Result<u16, LinkFault>
         ensures listens { Listens (state self.old) (state self.new) result }
         ensures cause { HasCause Failed (faults self.old) (faults self.new) result };
 
