@@ -1,6 +1,7 @@
 -- The first fault is that of the least place that has one.
 use Rattle.std.proofs.Common.{◌≡◌, ℕ, zero, suc, ◌+◌, ◌<◌, List, [], ◌∷◌, ◌++◌, refl, sym, ap, ◌∙◌, arith, length, take, length-append}
 use Rattle.std.specs.Prelude.{Option, None, Some, get_or}
+use Rattle.std.proofs.lemmas.List.{append-nil}
 use Rattle.cov_model.specs.declared.report.Range.{Range}
 use Rattle.cov_model.specs.declared.report.RangeFault.{RangeFault}
 use Rattle.cov_model.specs.Nesting.{fault_at, fault_from, range_fault, or_else}
@@ -16,13 +17,9 @@ record Least (root : Range) (earlier rest : List Range) (fault : RangeFault) : T
   here : fault_behind root earlier rest place ≡ Some fault
   before : (other : ℕ) → other < place → fault_behind root earlier rest other ≡ None
 
-none-behind : {A : Type 0} (xs : List A) → xs ++ [] ≡ xs
-none-behind [] = refl
-none-behind (x ∷ xs) = ap (λ ys. x ∷ ys) (none-behind xs)
-
 at-first : (root : Range) (earlier : List Range) (r : Range) (rest : List Range) → fault_behind root earlier (r ∷ rest) zero ≡ fault_at root earlier (length earlier) r
 at-first root earlier r rest =
-    let same = none-behind earlier in
+    let same = append-nil earlier in
     let count : length earlier + 0 ≡ length earlier = omega arith in
     (λ i. fault_at root (same i) (count i) r)
 

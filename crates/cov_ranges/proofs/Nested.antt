@@ -1,5 +1,5 @@
 -- A list of ranges has no fault exactly where it is well nested, and then its root alone says which offsets are counted.
-use Rattle.std.proofs.Common.{◌≡◌, ℕ, suc, ◌+◌, Bool, true, false, ◌&&◌, ◌||◌, List, [], ◌∷◌, ◌++◌, refl, sym, ap, ◌∙◌, arith, length}
+use Rattle.std.proofs.Common.{◌≡◌, ℕ, suc, ◌+◌, Bool, true, false, ◌&&◌, List, [], ◌∷◌, ◌++◌, refl, sym, ap, ◌∙◌, arith, length}
 use Rattle.std.proofs.Math.Bool.{and-true}
 use Rattle.std.specs.Prelude.{Option, None, Some, nat_le, nat_lt, cond, filter, not, is_none, option_map}
 use Rattle.std.specs.List.{list_all, position_or_len}
@@ -8,7 +8,9 @@ use Rattle.std.proofs.lemmas.List.Folds.{list_all-append}
 use Rattle.cov_model.specs.declared.report.Range.{Range}
 use Rattle.cov_model.specs.Nesting.{has_offset, is_within, runs_into, crosses, fault_at, fault_from, range_fault, or_else, each_pair, is_well_nested, innermost, inner}
 use Rattle.cov_ranges.specs.Root.{root_has}
+use Rattle.cov_ranges.specs.Front.{sound, apart}
 use Rattle.cov_ranges.specs.Laws.{FaultlessWhereNested}
+use Rattle.cov_ranges.proofs.Bools.{and-both, or-swap, all-same, all-yes, all-both}
 use Rattle.cov_ranges.proofs.Innermost.{scanned, scanned-innermost, scanned-Some}
 
 -- ---- tests
@@ -22,33 +24,9 @@ lt-first n = grind (arith, nat_tests)
 lt-not : (m n : ℕ) → nat_lt m n ≡ not (nat_le n m)
 lt-not m n = grind (arith, nat_tests)
 
-or-comm : (a b : Bool) → (a || b) ≡ (b || a)
-or-comm true true = refl
-or-comm true false = refl
-or-comm false true = refl
-or-comm false false = refl
-
 not-not : (a : Bool) → not (not a) ≡ a
 not-not true = refl
 not-not false = refl
-
-all-same : {A : Type 0} (p q : A → Bool) → ((x : A) → p x ≡ q x) → (xs : List A) → list_all p xs ≡ list_all q xs
-all-same p q same [] = refl
-all-same p q same (x ∷ xs) = (λ i. same x i && list_all p xs) ∙ ap (λ b. q x && b) (all-same p q same xs)
-
-all-yes : {A : Type 0} (xs : List A) → list_all (λ x. true) xs ≡ true
-all-yes [] = refl
-all-yes (x ∷ xs) = all-yes xs
-
-swap-four : (a b c d : Bool) → ((a && b) && (c && d)) ≡ ((a && c) && (b && d))
-swap-four false b c d = refl
-swap-four true false false d = refl
-swap-four true false true d = refl
-swap-four true true c d = refl
-
-all-both : {A : Type 0} (p q : A → Bool) (xs : List A) → list_all (λ x. p x && q x) xs ≡ (list_all p xs && list_all q xs)
-all-both p q [] = refl
-all-both p q (x ∷ xs) = ap (λ b. (p x && q x) && b) (all-both p q xs) ∙ swap-four (p x) (q x) (list_all p xs) (list_all q xs)
 
 -- a place is found exactly where one passes
 found : {A : Type 0} (p : A → Bool) (xs : List A) → nat_lt (position_or_len p xs) (length xs) ≡ not (list_all (λ x. not (p x)) xs)
@@ -61,15 +39,8 @@ found p (x ∷ xs) =
 
 -- ---- the faults
 
--- the range ends no sooner than it starts, and lies in the root
-abbrev pub sound : Range → Range → Bool
-sound root r = nat_le r.start r.end && is_within root r
-
-abbrev pub apart : Range → Range → Bool
-apart a b = not (crosses a b)
-
-apart-swap : (a b : Range) → apart a b ≡ apart b a
-apart-swap a b = ap not (or-comm (runs_into a b) (runs_into b a))
+pub apart-swap : (a b : Range) → apart a b ≡ apart b a
+apart-swap a b = ap not (or-swap (runs_into a b) (runs_into b a))
 
 no-fault : {A B : Type 0} (inverted within hit : Bool) (x z : B) (g : A → B) (i : A)
     → is_none (cond inverted (Some x) (cond within (option_map g (cond hit (Some i) None)) (Some z))) ≡ ((not inverted && within) && not hit)
@@ -85,7 +56,7 @@ fault_at-None root earlier k r =
     ∙ (λ i. (not-not (nat_le r.start r.end) i && is_within root r) && not-not (list_all (λ a. not (crosses r a)) earlier) i)
     ∙ ap (λ b. sound root r && b) (all-same (λ a. apart r a) (λ a. apart a r) (λ a. apart-swap r a) earlier)
 
-or_else-None : {A : Type 0} (a b : Option A) → is_none (or_else a b) ≡ (is_none a && is_none b)
+pub or_else-None : {A : Type 0} (a b : Option A) → is_none (or_else a b) ≡ (is_none a && is_none b)
 or_else-None (Some x) b = refl
 or_else-None None b = refl
 
@@ -103,7 +74,7 @@ regroup true true true true false true = refl
 regroup true true true true true false = refl
 regroup true true true true true true = refl
 
-fault_from-None : (root : Range) (rest earlier : List Range)
+pub fault_from-None : (root : Range) (rest earlier : List Range)
     → is_none (fault_from root earlier rest) ≡ (list_all (sound root) rest && (each_pair apart rest && list_all (λ a. list_all (apart a) rest) earlier))
 fault_from-None root [] earlier = sym (all-yes earlier)
 fault_from-None root (r ∷ rest) earlier =
@@ -119,7 +90,7 @@ range_fault-None [] = refl
 range_fault-None (root ∷ rest) =
     fault_from-None root (root ∷ rest) [] ∙ ap (λ b. list_all (sound root) (root ∷ rest) && b) (and-true (each_pair apart (root ∷ rest)))
 
-none-from : {A : Type 0} (o : Option A) → is_none o ≡ true → o ≡ None
+pub none-from : {A : Type 0} (o : Option A) → is_none o ≡ true → o ≡ None
 none-from None e = refl
 none-from (Some x) e = absurd cc
 
@@ -133,10 +104,6 @@ faultless_where_nested ranges = (nested-from-faultless ranges, λ e. none-from (
 
 outside : (o : ℕ) (root r : Range) → has_offset o root ≡ false → sound root r ≡ true → has_offset o r ≡ false
 outside o root r out within = grind (arith, nat_tests)
-
-and-both : (a b : Bool) → (a && b) ≡ true → (a ≡ true) × (b ≡ true)
-and-both true b e = (refl, e)
-and-both false b e = absurd cc
 
 none-around : (o : ℕ) (root : Range) (rs : List Range) → has_offset o root ≡ false → list_all (sound root) rs ≡ true → filter (has_offset o) rs ≡ []
 none-around o root [] out all = refl

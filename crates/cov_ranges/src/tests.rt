@@ -89,6 +89,41 @@ fn tells_the_first_that_is_crossed(rt: HostRuntime) -> Result<(), Fail> {
     Ok(())
 }
 
+// Each range in the one before: `k..200000-k`, counted k + 1 times.
+fn nested(alloc: Global) -> Result<Vec<Range>, AllocError> {
+    let mut ranges = Vec::new(alloc);
+    for k in 0..100000u32 {
+        ranges.push(range(k, 200000 - k, u64::from(k) + 1))?;
+    }
+    Ok(ranges)
+}
+
+// A root with `3k..3k+2` in it.
+fn siblings(alloc: Global) -> Result<Vec<Range>, AllocError> {
+    let mut ranges = Vec::new(alloc);
+    ranges.push(range(0, 300000, 1))?;
+    for k in 0..100000u32 {
+        ranges.push(range(3 * k, 3 * k + 2, 1))?;
+    }
+    Ok(ranges)
+}
+
+#[test]
+fn checks_many_ranges(rt: HostRuntime) -> Result<(), Fail> {
+    let alloc = rt.alloc();
+    let deep = nested(alloc)?;
+    check_answer(&rt, alloc, deep.as_slice(), None)?;
+    let mut wide = siblings(alloc)?;
+    check_answer(&rt, alloc, wide.as_slice(), None)?;
+    wide.push(range(150001, 150004, 1))?;
+    let crossing = RangeFault::Crossing {
+        k: 100001,
+        other: 50001,
+    };
+    check_answer(&rt, alloc, wide.as_slice(), Some(crossing))?;
+    Ok(())
+}
+
 // The counts at some offsets, asserted one by one.
 fn check_counts(
     rt: &impl Abort,
