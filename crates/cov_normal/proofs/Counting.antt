@@ -1,19 +1,22 @@
 -- What a nested normal list counts, and that it nests.
-use Rattle.std.proofs.Common.{◌≡◌, ℕ, suc, ◌<◌, ◌≤◌, Bool, true, false, List, [], ◌∷◌, ◌++◌, refl, sym, ap, ◌∙◌, subst, arith, inl, inr}
-use Rattle.std.specs.Prelude.{cond, ◌&&◌, not, nat_le, nat_lt, filter, None, Some, unwrap_or}
+use Rattle.std.proofs.Common.{◌≡◌, ℕ, suc, ◌<◌, ◌≤◌, Bool, true, false, List, [], ◌∷◌, ◌++◌, refl, sym, ap, ◌∙◌, subst, arith, inl, inr, length}
+use Rattle.std.specs.Prelude.{◌↔◌, cond, ◌&&◌, not, nat_le, nat_lt, filter, None, Some, unwrap_or}
 use Rattle.std.specs.List.{list_all}
-use Rattle.std.proofs.lemmas.Bool.{cases_lt, lt-ltb, le-leb}
+use Rattle.std.proofs.lemmas.Bool.{cases_lt}
 use Rattle.std.proofs.lemmas.Bool.Decides.{nat_tests}
 use Rattle.std.proofs.lemmas.List.Folds.{list_all-append}
 use Rattle.std.proofs.lemmas.List.Sorted.{IsPermutation-refl}
 use Rattle.cov_model.specs.declared.report.Range.{Range}
 use Rattle.cov_model.specs.Nesting.{has_offset, crosses, each_pair, is_within, is_well_nested, inner, inner_count, range_fault}
-use Rattle.cov_model.specs.Normal.{range, each_next}
+use Rattle.cov_model.specs.Normal.{range, each_next, maximal_runs}
 use Rattle.cov_model.specs.Nested.{nest, nested}
 use Rattle.cov_ranges.proofs.Nested.{faultless_where_nested}
-use Rattle.cov_steps.specs.Order.{precedes, last_count, last_at}
+use Rattle.cov_steps.specs.Order.{precedes, last_count}
 use Rattle.cov_steps.proofs.Checks.{and-both, both-and, all-more}
+use Rattle.cov_steps.proofs.Maximal.{count_in-maximal}
+use Rattle.cov_steps.proofs.Rooted.{first-ordered}
 use Rattle.cov_steps.proofs.Sorted.{inner-sorted}
+use Rattle.cov_steps.specs.Runs.{count_in, counted}
 use Rattle.cov_normal.specs.Nests.{IsChild, Nests}
 use Rattle.cov_normal.specs.Nests.Nests.{plain, child}
 use Rattle.cov_normal.specs.NestedLaws.{ItIsByCases, NoOtherIs, ItCounts, ItIsWellNested, CountsDetermineIt, IsNested, ItIsNested, TwoAreOne}
@@ -286,3 +289,17 @@ two_are_one root a b ha hb same =
 pub nested-faultless : (ranges : List Range) → IsNested ranges → range_fault ranges ≡ None
 nested-faultless [] h = absurd h
 nested-faultless (root ∷ rest) h = ap range_fault h.1 ∙ it_is_well_nested root.start root.end root.count (inner_count (root ∷ rest)) h.0
+
+-- the counts of the runs of ranges are their own, so that one list comes of both
+pub nested-counted : (root : Range) (rest : List Range)
+    → nested root.start root.end root.count (count_in (counted (root ∷ rest)).runs) ≡ nested root.start root.end root.count (inner_count (root ∷ rest))
+nested-counted root rest =
+    let f = inner_count (root ∷ rest) in
+    counts_determine_it root.start root.end root.count (count_in (maximal_runs root.start root.end f)) f (λ o low high. count_in-maximal root.start root.end o f low high)
+
+-- ranges that nest are nested normal exactly where they are the list of their counts
+pub is-own : (root : Range) (rest list : List Range) → range_fault (root ∷ rest) ≡ None → list ≡ nested root.start root.end root.count (inner_count (root ∷ rest))
+    → (list ≡ root ∷ rest) ↔ IsNested (root ∷ rest)
+is-own root rest list faultless is =
+    let some : 1 ≤ length (root ∷ rest) = omega arith in
+    (λ same. (first-ordered (root ∷ rest) root faultless some, sym same ∙ is), λ h. is ∙ sym h.1)

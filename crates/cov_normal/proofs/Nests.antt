@@ -1,6 +1,6 @@
 -- The nested normal list is the one that nests.
-use Rattle.std.proofs.Common.{◌≡◌, ◌⊎◌, ℕ, zero, suc, ◌+◌, ◌-◌, ◌*◌, ◌<◌, ◌≤◌, Bool, true, false, List, [], ◌∷◌, ◌++◌, refl, sym, ap, ◌∙◌, subst, arith, inl, inr}
-use Rattle.std.specs.Prelude.{Option, None, Some, unwrap_or, eqb, ◌==◌, not}
+use Rattle.std.proofs.Common.{◌≡◌, ◌⊎◌, ℕ, zero, suc, ◌+◌, ◌-◌, ◌*◌, ◌<◌, ◌≤◌, true, false, List, [], ◌∷◌, ◌++◌, refl, sym, ap, ◌∙◌, subst, arith, inl, inr}
+use Rattle.std.specs.Prelude.{Option, None, Some, unwrap_or, ◌==◌, not}
 use Rattle.std.proofs.lemmas.Bool.{cases_lt, eqb-true}
 use Rattle.std.proofs.lemmas.Bool.Decides.{nat_tests}
 use Rattle.cov_model.specs.declared.report.Range.{Range}
@@ -8,7 +8,7 @@ use Rattle.cov_model.specs.Normal.{range}
 use Rattle.cov_model.specs.Nested.{first_where, end_where, list_if_some, nest_to, nest}
 use Rattle.cov_normal.specs.Nests.{IsChild, Nests}
 use Rattle.cov_normal.specs.Nests.Nests.{plain, child}
-use Rattle.cov_normal.proofs.Found.{IsFound, first-found, IsFirst, first-or-end, IsLast, last-found}
+use Rattle.cov_normal.proofs.Found.{IsFound, first-found, first-or-end, last-found}
 
 -- ---- there is only one
 

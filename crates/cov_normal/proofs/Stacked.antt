@@ -1,13 +1,13 @@
 -- What is kept of the levels, as one run more comes.
 use Rattle.std.proofs.Common.{◌≡◌, ◌⊎◌, ℕ, zero, suc, ◌+◌, ◌<◌, ◌≤◌, Bool, true, false, List, [], ◌∷◌, ◌++◌, refl, sym, ap, ◌∙◌, subst, arith, inl, inr, append_assoc, length, length-append, take, set}
 use Rattle.std.specs.Prelude.{cond, eqb, Option, None, Some, slice_get}
-use Rattle.std.proofs.lemmas.Bool.{cases_Bool, eqb-true}
+use Rattle.std.proofs.lemmas.Bool.{eqb-true}
 use Rattle.std.proofs.lemmas.Bool.Decides.{nat_tests}
 use Rattle.std.proofs.lemmas.Option.{slice_get_within}
 use Rattle.cov_model.specs.declared.report.Range.{Range}
 use Rattle.cov_model.specs.Normal.{range}
 use Rattle.cov_model.specs.Nested.{nest, nested}
-use Rattle.cov_normal.specs.Stack.{Level, listed, places, MayGoOn, AreLevels, IsStack, Keeps, IsNesting, Shows, matched, placed, height_in, root_ended}
+use Rattle.cov_normal.specs.Stack.{Level, listed, places, IsStack, Keeps, IsNesting, Shows, matched, placed, height_in, root_ended}
 use Rattle.cov_normal.proofs.Levels.{grow, fresh, NoneHas, stack-grow, stack-push, levels-end, nest-plain}
 use Rattle.cov_normal.proofs.Counting.{nested-root}
 

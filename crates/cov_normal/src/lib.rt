@@ -15,5 +15,5 @@ mod tests;
 pub use cov_model::{Items, Range};
 pub use cov_steps::Runs;
 pub use list::{normal, runs_of};
-pub use nested_list::{nested, runs_of_nested};
+pub use nested_list::{is_nested, nested, runs_of_nested};
 pub use shape::is_normal;

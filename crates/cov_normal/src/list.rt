@@ -76,10 +76,17 @@ pub(crate) fn counts_of(alloc: Global, ranges: &[Range]) -> Result<Runs, AllocEr
     requires { range_fault ranges.now ≡ None }
     ensures { IfOk result (λ runs. runs ≡ counted ranges.now) }
 {
-    let report = FunctionReport {
+    let report = report_of(alloc, ranges)?;
+    Runs::of(alloc, &report)
+}
+
+// A report with these ranges.
+pub(crate) fn report_of(alloc: Global, ranges: &[Range]) -> Result<FunctionReport, AllocError>
+    ensures { IfOk result (λ report. report.ranges ≡ ranges.now) }
+{
+    Ok(FunctionReport {
         name: Text::from_text(alloc, "")?,
         block: true,
         ranges: Items::from_slice(alloc, ranges)?,
-    };
-    Runs::of(alloc, &report)
+    })
 }

@@ -1,15 +1,16 @@
 //! From runs to the nested normal list, and back.
-ghost use Rattle.std.specs.Prelude.{◌≡◌, ◌↔◌, ◌∷◌, ◌<◌, ℕ, IsTrue, IfOk};
+ghost use Rattle.std.specs.Prelude.{◌≡◌, ◌↔◌, ◌∷◌, ◌<◌, None, IsTrue, IfOk, nat_eq};
 ghost use Rattle.cov_model.specs.Nested.{nested};
+ghost use Rattle.cov_model.specs.Nesting.{range_fault, inner_count};
 ghost use Rattle.cov_steps.specs.Runs.{count_in, counted};
-ghost use Rattle.std.specs.Prelude.{nat_eq};
 ghost use Rattle.std.specs.HashMap.{get};
 ghost use Rattle.cov_normal.specs.NestedLaws.{IsNested};
 ghost use Rattle.cov_normal.specs.Stack.{IsNesting, AllShow, AreEndToEnd};
 
-use crate::list::counts_of;
+use crate::list::{counts_of, report_of};
 use crate::nesting::Nesting;
 use cov_model::{Items, Range, Steps};
+use cov_ranges::{CheckFault, check_ranges};
 use cov_steps::Runs;
 use std::alloc::{AllocError, Global};
 use std::marker::Brand;
@@ -51,6 +52,67 @@ fn nesting_of<L: Ledger>(
         nesting.go_on(runs.get(i, &mut steps))?;
     }
     Ok(nesting)
+}
+
+/// Whether a list of ranges is the nested normal list of its own root and innermost counts, whose root ends no sooner
+/// than it starts. The error is want of memory.
+pub fn is_nested(alloc: Global, ranges: &[Range]) -> Result<bool, AllocError>
+    ensures { IfOk result (λ is. IsTrue is ↔ IsNested ranges.now) }
+{
+    match ranges {
+        [] => Ok(false),
+        [root, rest @ ..] => is_nested_under(alloc, *root, rest, ranges),
+    }
+}
+
+// Whether ranges, which are a root and those behind it, are the nested normal list of their own counts.
+fn is_nested_under(
+    alloc: Global,
+    root: Range,
+    rest: &[Range],
+    ranges: &[Range],
+) -> Result<bool, AllocError>
+    requires { ranges.now ≡ root ∷ rest.now }
+    ensures { IfOk result (λ is. IsTrue is ↔ IsNested ranges.now) }
+{
+    if !nest(alloc, ranges)? {
+        return Ok(false);
+    }
+    let list = list_of(alloc, root, rest, ranges)?;
+    Ok(are_one(list.as_slice(), ranges))
+}
+
+// The nested normal list of the counts of ranges that nest, which are a root and those behind it.
+fn list_of(
+    alloc: Global,
+    root: Range,
+    rest: &[Range],
+    ranges: &[Range],
+) -> Result<Items<Range>, AllocError>
+    requires is { ranges.now ≡ root ∷ rest.now }
+    requires nests { range_fault ranges.now ≡ None }
+    ensures { IfOk result (λ list. list ≡ nested root.start root.end root.count (inner_count ranges.now)) }
+{
+    let runs = counts_of(alloc, ranges)?;
+    nested(alloc, root.start, root.end, root.count, &runs)
+}
+
+// Whether ranges nest.
+fn nest(alloc: Global, ranges: &[Range]) -> Result<bool, AllocError>
+    ensures { IfOk result (λ nest. IsTrue nest ↔ (range_fault ranges.now ≡ None)) }
+{
+    let report = report_of(alloc, ranges)?;
+    match check_ranges(&report) {
+        Ok(()) => Ok(true),
+        Err(CheckFault::Bad(_)) => Ok(false),
+        Err(CheckFault::NoMemory) => Err(AllocError),
+    }
+}
+
+fn are_one(a: &[Range], b: &[Range]) -> bool
+    ensures { IsTrue result ↔ (a.now ≡ b.now) }
+{
+    a == b
 }
 
 /// The runs of a nested normal list: at each offset of its root the innermost count, as `Runs::of` gives them of a

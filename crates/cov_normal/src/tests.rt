@@ -1,6 +1,7 @@
 ghost use Rattle.std.specs.Prelude.{◌≡◌, ◌<◌};
 
-use crate::{Items, Range, Runs, is_normal, normal, runs_of};
+use crate::nesting::Nesting;
+use crate::{Items, Range, Runs, is_nested, is_normal, nested, normal, runs_of, runs_of_nested};
 use cov_model::{FunctionReport, Steps, Text};
 use cov_ranges::check_ranges;
 use cov_steps::StepFault;
@@ -142,4 +143,94 @@ fn refuses_other_lists(rt: HostRuntime) {
         !is_normal(&[range(5, 10, 1), range(4, 6, 7)]),
         "before the start"
     );
+}
+
+// That the ranges, which nest, have this nested normal list.
+fn check_nested(
+    rt: &impl Abort,
+    alloc: Global,
+    ranges: &[Range],
+    root: u64,
+    expected: &[Range],
+) -> Result<(), Fail> {
+    let runs = counts_of(alloc, ranges)?;
+    let list = nested(alloc, runs.start(), runs.end(), root, &runs)?;
+    assert_eq!(rt; list.as_slice(), expected, "of {runs:?}");
+    assert!(rt; is_nested(alloc, list.as_slice())?, "{list:?}");
+    let back = runs_of_nested(alloc, list.as_slice())?;
+    assert!(rt; back.agrees(&runs), "{back:?} of {list:?}");
+    Ok(())
+}
+
+#[test]
+fn lists_nested_ranges(rt: HostRuntime) -> Result<(), Fail> {
+    let alloc = rt.alloc();
+    let loop_body = [
+        range(13, 19, 10),
+        range(19, 24, 4),
+        range(24, 30, 6),
+        range(30, 33, 10),
+    ];
+    let [before, one, other, after] = loop_body;
+    let flat = [range(0, 34, 1), before, one, other, after];
+    check_nested(
+        &rt,
+        alloc,
+        &flat,
+        1,
+        &[range(0, 34, 1), range(13, 33, 10), one, other],
+    )?;
+    let behind = [
+        range(0, 10, 1),
+        range(2, 7, 5),
+        range(4, 6, 7),
+        range(7, 9, 7),
+    ];
+    check_nested(&rt, alloc, &behind, 1, &behind)?;
+    let hidden = [range(0, 10, 4), range(0, 10, 9)];
+    check_nested(&rt, alloc, &hidden, 4, &hidden)?;
+    check_nested(&rt, alloc, &[range(3, 3, 2)], 2, &[range(3, 3, 2)])
+}
+
+fn refused(rt: &impl Abort, alloc: Global, ranges: &[Range]) -> Result<(), Fail> {
+    assert!(rt; !is_nested(alloc, ranges)?, "{ranges:?}");
+    Ok(())
+}
+
+#[test]
+fn refuses_what_is_not_nested(rt: HostRuntime) -> Result<(), Fail> {
+    let alloc = rt.alloc();
+    let root = range(0, 10, 1);
+    refused(&rt, alloc, &[])?;
+    refused(&rt, alloc, &[range(5, 4, 1)])?;
+    refused(&rt, alloc, &[root, range(2, 7, 1)])?;
+    refused(&rt, alloc, &[root, range(2, 4, 5), range(4, 7, 5)])?;
+    refused(
+        &rt,
+        alloc,
+        &[root, range(2, 9, 5), range(4, 6, 7), range(7, 9, 7)],
+    )?;
+    refused(
+        &rt,
+        alloc,
+        &[root, range(2, 4, 5), range(4, 6, 7), range(6, 7, 5)],
+    )?;
+    refused(&rt, alloc, &[root, range(2, 7, 5), range(4, 9, 7)])
+}
+
+// Counts that rise for 100,000 offsets and fall again give one range in another.
+#[test]
+fn nests_deeply(rt: HostRuntime) -> Result<(), Fail> {
+    let alloc = rt.alloc();
+    let depth: u32 = 100_000;
+    let mut nesting = Nesting::new(alloc, 0, 0)?;
+    for i in 0..depth {
+        nesting.go_on(range(i, i + 1, u64::from(i)))?;
+    }
+    for i in 0..depth {
+        nesting.go_on(range(depth + i, depth + i + 1, u64::from(depth - i)))?;
+    }
+    let ranges = nesting.finish(2 * depth);
+    assert_eq!(rt; ranges.len(), 100_001);
+    Ok(())
 }

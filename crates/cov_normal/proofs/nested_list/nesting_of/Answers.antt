@@ -1,4 +1,4 @@
-use Rattle.std.proofs.Common.{◌≡◌, ◌≤◌, sym, subst, refl, arith, length}
+use Rattle.std.proofs.Common.{◌≤◌, sym, subst, refl, arith, length}
 use Rattle.std.specs.Prelude.{nat_eq}
 use Rattle.std.specs.HashMap.{get}
 use Rattle.cov_steps.specs.Runs.{count_in}

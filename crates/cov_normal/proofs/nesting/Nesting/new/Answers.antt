@@ -1,4 +1,4 @@
-use Rattle.std.proofs.Common.{◌≡◌, [], ◌∷◌, rules, arith, sym, subst}
+use Rattle.std.proofs.Common.{◌≡◌, [], ◌∷◌, rules, arith, subst}
 use Rattle.std.specs.Prelude.{nat_eq, Some}
 use Rattle.std.specs.HashMap.{get}
 use Rattle.std.proofs.lemmas.Grind.{common_steps}
