@@ -16,7 +16,8 @@ use Rattle.cov_model.specs.Nesting.{has_offset}
 use Rattle.cov_model.specs.Sums.{key_of, file_order, keys_in_order}
 use Rattle.cov_steps.specs.Runs.{count_in, counted}
 use Rattle.cov_book.specs.declared.sums.Sums.{Sums}
-use Rattle.cov_book.specs.Entries.{IsAligned, AreAligned, report_sums, summed, key_sums, entries_of}
+use Rattle.cov_book.specs.Entries.{key_sums, entries_of}
+use Rattle.cov_book.specs.Prepared.{IsAligned, AreAligned, report_sums, summed}
 use Rattle.cov_book.proofs.Ordered.{file_exact}
 
 aligned-insert : (known : List (Key × Sums)) (k : Key) (v : Sums) → AreAligned known → IsAligned (k, v) → AreAligned (insert_entry file_order known k v)

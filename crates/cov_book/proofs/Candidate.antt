@@ -23,10 +23,11 @@ use Rattle.cov_model.specs.Nesting.{or_else}
 use Rattle.cov_model.specs.Sums.{fits, key_of, keys, keys_in_order, file_order, same_key, points, reports, total, sum_at, sum_fault}
 use Rattle.cov_steps.proofs.Maximal.{count_in-maximal}
 use Rattle.cov_book.specs.declared.sums.Sums.{Sums}
-use Rattle.cov_book.specs.Counts.{weight, reports_in, passes, first_point, first_sum, fault_with}
-use Rattle.cov_book.specs.Entries.{report_sums, summed, with_key, with_report, IsWithin, AreKept, AreWithin, ArePrepared, sums_now, sums_at, entries_of, with_entries}
+use Rattle.cov_book.specs.Counts.{weight, reports_in, passes, first_point, fault_with}
+use Rattle.cov_book.specs.Entries.{sums_at, entries_of}
+use Rattle.cov_book.specs.Prepared.{report_sums, summed, with_key, with_report, IsWithin, AreKept, AreWithin, ArePrepared, sums_now, with_entries}
 use Rattle.cov_book.specs.Least.{comes_before, IfWithin, IsPastAt, IsLeastPast, IsLeastSoFar}
-use Rattle.cov_book.proofs.Finding.{fault-is, both-is, sum-is}
+use Rattle.cov_book.proofs.Finding.{first_sum, fault-is, both-is, sum-is}
 use Rattle.cov_book.proofs.Having.{absent}
 use Rattle.cov_book.proofs.Keyed.{found, is-at, entries-more}
 use Rattle.cov_book.proofs.Ordered.{file_total, file_exact, at-equal, in_order-sorted}

@@ -16,8 +16,10 @@ use Rattle.cov_model.specs.Normal.{maximal_runs}
 use Rattle.cov_model.specs.Sums.{total, keys, keys_in_order, key_of, is_of, file_order, same_key}
 use Rattle.cov_book.specs.declared.sums.Sums.{Sums}
 use Rattle.cov_book.specs.Counts.{reports_in}
-use Rattle.cov_book.specs.Cost.{cost_of, held_runs, added_runs, for_key, for_report, for_reports, for_entries, own_runs, own_all, runs_at}
-use Rattle.cov_book.specs.Entries.{report_runs, report_sums, runs_held, summed, sums_at, sums_now, entries_of, with_key, with_report, ArePrepared}
+use Rattle.cov_book.specs.Cost.{cost_of, held_runs, added_runs}
+use Rattle.cov_book.specs.Spent.{for_key, for_report, for_reports, for_entries, own_runs, own_all, runs_at}
+use Rattle.cov_book.specs.Entries.{sums_at, entries_of}
+use Rattle.cov_book.specs.Prepared.{report_runs, report_sums, runs_held, summed, sums_now, with_key, with_report, ArePrepared}
 use Rattle.cov_book.proofs.Finding.{sum-flat, sum-each, one-script}
 use Rattle.cov_book.proofs.Keyed.{found, is-at, of-key}
 use Rattle.cov_book.proofs.Ordered.{file_exact, any-in_order, is-same, same-is}

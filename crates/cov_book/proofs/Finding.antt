@@ -19,7 +19,7 @@ use Rattle.cov_model.specs.Nesting.{or_else}
 use Rattle.cov_text.specs.Listing.{limit}
 use Rattle.cov_model.specs.Sums.{fits, sum_at, sum_fault, passes_limit, points, keys_in_order, is_of, reports, root, total}
 use Rattle.cov_model.proofs.Grows.{fits-each, sum_at-append}
-use Rattle.cov_book.specs.Counts.{capped, weight, reports_in, passes, first_point, first_sum, fault_with}
+use Rattle.cov_book.specs.Counts.{capped, weight, reports_in, passes, first_point, fault_with}
 
 pub offsets-more : (o end : ℕ) → o < end → offsets o end ≡ o ∷ offsets (o + 1) end
 offsets-more o end l =
@@ -31,6 +31,11 @@ offsets-more o end l =
 pub find-more : (p : At → Bool) (o end : ℕ) → o < end → false ≡ p (Offset o) → find p (map Offset (offsets o end)) ≡ find p (map Offset (offsets (o + 1) end))
 find-more p o end l under =
     ap (λ os. find p (map Offset os)) (offsets-more o end l) ∙ ap (λ b. cond b (Some (Offset o)) (find p (map Offset (offsets (o + 1) end)))) (sym under)
+
+-- the first sum past the limit among these keys
+abbrev pub first_sum : List Snapshot → Snapshot → List Key → Option SumFault
+first_sum held snapshot [] = None
+first_sum held snapshot (key ∷ rest) = or_else (option_map (fault_with held snapshot key) (first_point held snapshot key (points key))) (first_sum held snapshot rest)
 
 -- ---- the sums as the definitions have them
 

@@ -10,7 +10,8 @@ use Rattle.cov_model.specs.Nesting.{AreNested}
 use Rattle.cov_model.specs.Sums.{fits, urls, keys, urls_in_order, keys_in_order, file_order}
 use Rattle.cov_model.specs.Held.{Held, StandsFor}
 use Rattle.cov_book.specs.declared.sums.Sums.{Sums}
-use Rattle.cov_book.specs.Entries.{IsBook, AreKept, AreWithin, key_sums, entries_of, with_entries}
+use Rattle.cov_book.specs.Entries.{IsBook, key_sums, entries_of}
+use Rattle.cov_book.specs.Prepared.{AreKept, AreWithin, with_entries}
 use Rattle.cov_book.specs.Urls.{with_urls, urls_of}
 use Rattle.cov_book.proofs.Agreeing.{urls-append}
 use Rattle.cov_book.proofs.Aligned.{aligned-entries}
@@ -43,7 +44,7 @@ pub entries-held : (us : List (List ℕ)) (entries : List (Key × Sums)) (now : 
     → (held : List Snapshot) → StandsFor now held → entries ≡ entries_of held
 entries-held us entries now b is held stands = b.entries_are ∙ agree-entries b.held held (stands-agree us entries now b is held stands)
 
-urls-held : (us : List (List ℕ)) (entries : List (Key × Sums)) (now : Held) → (b : IsBook us entries) → view us entries ≡ now
+pub urls-held : (us : List (List ℕ)) (entries : List (Key × Sums)) (now : Held) → (b : IsBook us entries) → view us entries ≡ now
     → (held : List Snapshot) → StandsFor now held → us ≡ urls_in_order held
 urls-held us entries now b is held stands = b.urls_are ∙ (stands-agree us entries now b is held stands).urls
 

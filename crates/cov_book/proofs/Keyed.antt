@@ -26,7 +26,8 @@ use Rattle.cov_model.specs.Sums.{reports, root, total, flag, root_count, is_of, 
 use Rattle.cov_steps.specs.Runs.{count_in, counted}
 use Rattle.cov_steps.proofs.Maximal.{maximal_runs-same, count_in-maximal}
 use Rattle.cov_book.specs.declared.sums.Sums.{Sums}
-use Rattle.cov_book.specs.Entries.{report_sums, sum_two, summed, with_key, with_reports, with_entries, sums_at, key_sums, entries_of, SumsGrow}
+use Rattle.cov_book.specs.Entries.{sums_at, key_sums, entries_of}
+use Rattle.cov_book.specs.Prepared.{report_sums, sum_two, summed, with_key, with_reports, with_entries, SumsGrow}
 use Rattle.cov_book.proofs.Agreeing.{keys-append}
 use Rattle.cov_book.proofs.Finding.{weigh, weigh-reports}
 use Rattle.cov_book.proofs.Having.{absent, has-is, cons-count, any-count}

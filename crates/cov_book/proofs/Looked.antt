@@ -10,7 +10,8 @@ use Rattle.cov_model.specs.Held.{Held, FunctionSums, StandsFor}
 use Rattle.cov_model.specs.Normal.{maximal_runs}
 use Rattle.cov_model.specs.Sums.{same_key, keys_in_order, total}
 use Rattle.cov_book.specs.declared.sums.Sums.{Sums}
-use Rattle.cov_book.specs.Entries.{IsBook, IsAligned, AreAligned, sums_at, key_sums, entries_of, spread}
+use Rattle.cov_book.specs.Entries.{IsBook, sums_at, key_sums, entries_of, spread}
+use Rattle.cov_book.specs.Prepared.{IsAligned, AreAligned}
 use Rattle.cov_book.proofs.Ordered.{same-is}
 use Rattle.cov_book.proofs.Seen.{view, stands-agree, agree-sums}
 

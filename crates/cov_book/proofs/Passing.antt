@@ -21,7 +21,8 @@ use Rattle.cov_model.proofs.Grows.{fits-each}
 use Rattle.cov_steps.proofs.Maximal.{count_in-maximal}
 use Rattle.cov_book.specs.declared.sums.Sums.{Sums}
 use Rattle.cov_book.specs.Counts.{capped, weight, reports_in, passes, first_point, fault_with}
-use Rattle.cov_book.specs.Entries.{IsWithin, AreWithin, sums_at, key_sums, entries_of, held_weight, passes_over, with_entries}
+use Rattle.cov_book.specs.Entries.{sums_at, key_sums, entries_of}
+use Rattle.cov_book.specs.Prepared.{IsWithin, AreWithin, held_weight, passes_over, with_entries}
 use Rattle.cov_book.proofs.Finding.{sum-is}
 use Rattle.cov_book.proofs.Having.{absent}
 use Rattle.cov_book.proofs.Keyed.{found, entries-more}

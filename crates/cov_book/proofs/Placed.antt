@@ -18,7 +18,7 @@ use Rattle.cov_model.specs.declared.sums.Key.{Key}
 use Rattle.cov_text.specs.Listing.{inserted, text_cmp}
 use Rattle.cov_model.specs.Sums.{file_order}
 use Rattle.cov_book.specs.declared.sums.Sums.{Sums}
-use Rattle.cov_book.specs.Entries.{is_among}
+use Rattle.cov_book.specs.Prepared.{is_among}
 use Rattle.cov_book.proofs.Ordered.{at-equal, text_total, text_exact, file_total, file_exact, any-inserted, sorted-inserted}
 
 -- two keys are at each other

@@ -17,7 +17,7 @@ use Rattle.cov_model.specs.Sums.{key_of, file_order, same_key}
 use Rattle.cov_book.specs.declared.sums.Sums.{Sums}
 use Rattle.cov_book.specs.declared.sums.Stop.{Stop}
 use Rattle.cov_book.specs.declared.sums.Stop.TheVariants.{Past, NoMemory}
-use Rattle.cov_book.specs.Entries.{report_sums, summed, with_key, with_report, with_reports, with_entries, IsAligned, IsWithin, AreWithin, IfPast, IfOnePast, ArePrepared, sums_now}
+use Rattle.cov_book.specs.Prepared.{report_sums, summed, with_key, with_report, with_reports, with_entries, IsAligned, IsWithin, AreWithin, IfPast, IfOnePast, ArePrepared, sums_now}
 use Rattle.cov_book.proofs.Aligned.{aligned-with, aligned-report}
 use Rattle.cov_book.proofs.Keyed.{is-at}
 use Rattle.cov_book.proofs.Ordered.{file_total, file_exact, sorted-insert, same-is, is-same}

@@ -20,7 +20,7 @@ use Rattle.cov_model.specs.declared.sums.At.TheVariants.{Offset}
 use Rattle.cov_text.specs.Listing.{limit, offsets}
 use Rattle.cov_model.specs.Nesting.{inner_count}
 use Rattle.cov_book.specs.Counts.{capped, weight, reports_in}
-use Rattle.cov_book.specs.Entries.{AreAligned}
+use Rattle.cov_book.specs.Prepared.{AreAligned}
 use Rattle.cov_book.specs.Stretching.{IsCover, sum_in, TellsSums, AreRooted, IfRooted}
 use Rattle.cov_book.specs.declared.sums.Sums.{Sums}
 use Rattle.cov_book.specs.declared.stretches.Stretch.{Stretch}

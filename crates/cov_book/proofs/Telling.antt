@@ -12,7 +12,8 @@ use Rattle.cov_model.specs.File.{merged_report, merged_entry, scripts}
 use Rattle.cov_steps.specs.Runs.{count_in}
 use Rattle.cov_steps.proofs.Maximal.{count_in-maximal}
 use Rattle.cov_book.specs.declared.sums.Sums.{Sums}
-use Rattle.cov_book.specs.Entries.{IsBook, AreAligned, key_sums, entries_of, told_report, told_entry}
+use Rattle.cov_book.specs.Entries.{IsBook, key_sums, entries_of}
+use Rattle.cov_book.specs.Prepared.{AreAligned, told_report, told_entry}
 use Rattle.cov_book.specs.Told.{AreOfUrls}
 use Rattle.cov_book.proofs.Agreeing.{flat-same, map-each}
 use Rattle.cov_book.proofs.Aligned.{aligned-entries}

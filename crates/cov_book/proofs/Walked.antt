@@ -15,7 +15,7 @@ use Rattle.cov_model.specs.declared.sums.Key.{Key}
 use Rattle.cov_text.specs.Listing.{same_text, text_cmp}
 use Rattle.cov_model.specs.Sums.{file_order}
 use Rattle.cov_book.specs.declared.sums.Sums.{Sums}
-use Rattle.cov_book.specs.Entries.{told_report, told_entry}
+use Rattle.cov_book.specs.Prepared.{told_report, told_entry}
 use Rattle.cov_book.specs.Told.{front, AreOfUrls}
 use Rattle.cov_book.proofs.Ordered.{text_total, text_exact}
 use Rattle.std.proofs.lemmas.Slice.Eq.{bytes_eq-Decides}

@@ -17,7 +17,7 @@ use Rattle.cov_model.specs.Sums.{file_order}
 use Rattle.cov_steps.specs.Runs.{RunList, count_in, counted, sum_of, sum_at, Fits, IsFirstPast}
 use Rattle.cov_steps.proofs.Maximal.{count_in-maximal}
 use Rattle.cov_book.specs.declared.sums.Sums.{Sums}
-use Rattle.cov_book.specs.Entries.{report_sums, sum_two, summed, with_key, with_report, with_reports, IsWithin, AreWithin}
+use Rattle.cov_book.specs.Prepared.{report_sums, sum_two, summed, with_key, with_report, with_reports, IsWithin, AreWithin}
 
 -- ---- the counts of a report
 

@@ -1,12 +1,12 @@
 -- Sums as code counts them.
-use Rattle.std.specs.Prelude.{ℕ, ◌^◌, ◌-◌, ◌+◌, min, Bool, filter, List, [], ◌∷◌, flat_map, find, Option, None, option_map, nat_lt, sum_by}
+use Rattle.std.specs.Prelude.{ℕ, ◌^◌, ◌-◌, ◌+◌, min, Bool, filter, List, flat_map, find, Option, nat_lt, sum_by}
 use Rattle.cov_model.specs.declared.report.FunctionReport.{FunctionReport}
 use Rattle.cov_model.specs.declared.snapshot.Snapshot.{Snapshot}
 use Rattle.cov_model.specs.declared.sums.Key.{Key}
 use Rattle.cov_model.specs.declared.sums.At.{At}
 use Rattle.cov_model.specs.declared.sums.At.TheVariants.{Root, Offset}
 use Rattle.cov_model.specs.declared.sums.SumFault.{SumFault}
-use Rattle.cov_model.specs.Nesting.{inner_count, or_else}
+use Rattle.cov_model.specs.Nesting.{inner_count}
 use Rattle.cov_text.specs.Listing.{limit}
 use Rattle.cov_model.specs.Sums.{root_count, is_of, reports, points}
 
@@ -32,8 +32,3 @@ first_point held snapshot key points = find (passes (reports held key) (reports_
 -- what is told of a sum past the limit
 abbrev pub fault_with : List Snapshot → Snapshot → Key → At → SumFault
 fault_with held snapshot key at = record { key = key; at = at; held = min (sum_by (weight at) (reports held key)) limit; added = capped (sum_by (weight at) (reports_in key snapshot)) }
-
--- the first sum past the limit among these keys
-abbrev pub first_sum : List Snapshot → Snapshot → List Key → Option SumFault
-first_sum held snapshot [] = None
-first_sum held snapshot (key ∷ rest) = or_else (option_map (fault_with held snapshot key) (first_point held snapshot key (points key))) (first_sum held snapshot rest)

@@ -1,4 +1,4 @@
--- The least key of which a sum passes the limit.
+-- Words of private functions: the least key of which a sum passes the limit.
 use Rattle.std.specs.Prelude.{◌≡◌, Bool, true, List, Option, None, Some}
 use Rattle.std.specs.Ordering.{is_lt}
 use Rattle.std.specs.Map.{lookup}
@@ -6,7 +6,7 @@ use Rattle.std.specs.BTreeMap.{BTreeMap, is_at}
 use Rattle.cov_model.specs.declared.sums.Key.{Key}
 use Rattle.cov_model.specs.Sums.{file_order}
 use Rattle.cov_book.specs.declared.sums.Sums.{Sums}
-use Rattle.cov_book.specs.Entries.{IsWithin, ArePrepared}
+use Rattle.cov_book.specs.Prepared.{IsWithin, ArePrepared}
 
 -- the key comes before that one, if there is one
 abbrev pub comes_before : Key → Option Key → Bool

@@ -1,13 +1,12 @@
 -- How many things a list of snapshots comes to.
-use Rattle.std.specs.Prelude.{ℕ, ◌+◌, min, List, [], ◌∷◌, length, sum_by}
-use Rattle.cov_model.specs.declared.report.FunctionReport.{FunctionReport}
-use Rattle.cov_model.specs.declared.snapshot.Entry.{Entry}
+use Rattle.std.specs.Prelude.{ℕ, ◌+◌, min, ◌==◌, List, length, sum_by, if◌then◌else◌}
 use Rattle.cov_model.specs.declared.snapshot.Snapshot.{Snapshot}
 use Rattle.cov_model.specs.declared.sums.Key.{Key}
 use Rattle.cov_model.specs.Normal.{normal_list}
 use Rattle.cov_text.specs.Listing.{limit}
-use Rattle.cov_model.specs.Sums.{root, total, root_count, urls_in_order, keys_in_order}
+use Rattle.cov_model.specs.Sums.{root, total, urls_in_order, keys_in_order}
 use Rattle.cov_book.specs.Counts.{capped}
+use Rattle.cov_book.specs.declared.sums.Sums.{Sums}
 use Rattle.cov_book.specs.declared.numbers.Numbers.{Numbers}
 
 -- how many ranges the normal list of a function has
@@ -23,21 +22,16 @@ unfoldable pub numbers_of : List Snapshot → Numbers
 numbers_of snapshots =
     kept (length (urls_in_order snapshots)) (length (keys_in_order snapshots)) (sum_by (range_count snapshots) (keys_in_order snapshots)) (sum_by (root snapshots) (keys_in_order snapshots))
 
--- ---- as code counts them
+-- how many runs of a function's sums have another count than the root
+abbrev pub runs_told : Sums → ℕ
+runs_told sums = sum_by (λ run. if run.count == sums.root then 0 else 1) sums.runs.runs
 
-abbrev pub with_report : Numbers → FunctionReport → Numbers
-with_report n f = record { scripts = n.scripts; functions = min (n.functions + 1) limit; ranges = min (n.ranges + length f.ranges) limit; roots = capped (n.roots + root_count f) }
+abbrev pub ranges_told : Key × Sums → ℕ
+ranges_told e = 1 + runs_told e.1
 
-abbrev pub with_reports : Numbers → List FunctionReport → Numbers
-with_reports n [] = n
-with_reports n (f ∷ fs) = with_reports (with_report n f) fs
+abbrev pub root_told : Key × Sums → ℕ
+root_told e = e.1.root
 
-abbrev pub one_more : Numbers → Numbers
-one_more n = record { scripts = min (n.scripts + 1) limit; functions = n.functions; ranges = n.ranges; roots = n.roots }
-
-abbrev pub with_scripts : Numbers → List Entry → Numbers
-with_scripts n [] = n
-with_scripts n (entry ∷ entries) = with_scripts (with_reports (one_more n) entry.functions) entries
-
-abbrev pub nothing : Numbers
-nothing = record { scripts = 0; functions = 0; ranges = 0; roots = 0 }
+-- the numbers of urls and of the sums of functions
+abbrev pub numbers_told : List (List ℕ) → List (Key × Sums) → Numbers
+numbers_told urls entries = kept (length urls) (length entries) (sum_by ranges_told entries) (sum_by root_told entries)

@@ -1,4 +1,4 @@
--- Stretches of offsets with one sum each, as the search for a sum past the limit walks them.
+-- Words of private functions: stretches of offsets with one sum each.
 use Rattle.std.specs.Prelude.{◌≡◌, ℕ, ◌<◌, ◌≤◌, nat_lt, List, [], ◌∷◌, Option, None, Some, if◌then◌else◌}
 use Rattle.std.specs.List.{AllByRecursion}
 use Rattle.cov_model.specs.declared.report.FunctionReport.{FunctionReport}

@@ -1,4 +1,4 @@
--- The urls of scripts.
+-- Words of private functions: the urls of scripts.
 use Rattle.std.specs.Prelude.{ℕ, List, map}
 use Rattle.cov_model.specs.declared.snapshot.Entry.{Entry}
 use Rattle.cov_text.specs.Listing.{inserted, text_cmp}

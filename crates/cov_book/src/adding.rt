@@ -5,8 +5,8 @@ ghost use Rattle.cov_model.specs.declared.sums.Key.{Key};
 ghost use Rattle.std.specs.Option.{option_copied};
 ghost use Rattle.cov_model.specs.Nesting.{range_fault, AreNested, AreReportsNested};
 ghost use Rattle.cov_model.specs.Sums.{key_of};
-ghost use Rattle.cov_book.specs.Cost.{for_entries, for_report, for_reports, own_all, own_runs, runs_at};
-ghost use Rattle.cov_book.specs.Entries.{AreKept, ArePrepared, CanGoOn, IfPast, IfOnePast, IsWithin, report_runs, report_sums, runs_held, sums_now, summed, with_report, with_reports, with_entries};
+ghost use Rattle.cov_book.specs.Spent.{for_entries, for_report, for_reports, own_all, own_runs, runs_at};
+ghost use Rattle.cov_book.specs.Prepared.{AreKept, ArePrepared, CanGoOn, IfPast, IfOnePast, IsWithin, report_runs, report_sums, runs_held, sums_now, summed, with_report, with_reports, with_entries};
 
 use crate::sums::{Stop, Sums, sum_with, sums_of};
 use cov_model::{Entry, FunctionReport, Key, Snapshot, Steps, Text};

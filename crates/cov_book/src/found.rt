@@ -59,13 +59,13 @@ pub fn sum_of(found: &[&FunctionReport], at: At) -> u128
 {
     let mut sum = 0u128;
     for report in found {
-        sum = sum.saturating_add(count_of(report, at) as u128);
+        sum = sum.saturating_add(count_at_point(report, at) as u128);
     }
     sum
 }
 
 /// A report's count at a point.
-fn count_of(report: &FunctionReport, at: At) -> u64
+fn count_at_point(report: &FunctionReport, at: At) -> u64
     requires { range_fault report.now.ranges ≡ None }
     ensures { result ≡ weight at report.now }
 {

@@ -1,5 +1,5 @@
 //! Laws of merging, over the definitions.
-ghost use Rattle.cov_book.specs.Entries.{SumsGrow};
+ghost use Rattle.cov_book.specs.Prepared.{SumsGrow};
 ghost use Rattle.cov_book.specs.Rows.{RunsLookedAt};
 ghost use Rattle.cov_book.specs.Laws.{AnyOrder, MergesInParts, JoinsInOne, JoinsOverTwo};
 

@@ -3,7 +3,7 @@ ghost use Rattle.std.specs.Prelude.{◌≡◌, ◌≤◌, List, None, IfOk, OnOk
 ghost use Rattle.cov_model.specs.declared.sums.Key.{Key};
 ghost use Rattle.cov_model.specs.Nesting.{range_fault, AreNested, AreReportsNested};
 ghost use Rattle.cov_book.specs.declared.sums.Sums.{Sums};
-ghost use Rattle.cov_book.specs.Entries.{AreKept, with_report, with_reports, with_entries};
+ghost use Rattle.cov_book.specs.Prepared.{AreKept, with_report, with_reports, with_entries};
 ghost use Rattle.cov_book.specs.Least.{comes_before, CanGoOnLeast, IsLeastPast, IsLeastSoFar};
 
 use crate::adding::{named, sums_with};

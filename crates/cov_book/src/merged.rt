@@ -5,7 +5,7 @@ ghost use Rattle.std.specs.Map.{keys_of};
 ghost use Rattle.std.specs.Map.Iter.{deref_pair};
 ghost use Rattle.cov_model.specs.Nesting.{AreNested};
 ghost use Rattle.cov_model.specs.Sums.{file_order};
-ghost use Rattle.cov_book.specs.Entries.{AreAligned, IsAligned, told_report, told_entry};
+ghost use Rattle.cov_book.specs.Prepared.{AreAligned, IsAligned, told_report, told_entry};
 ghost use Rattle.cov_book.specs.Told.{front, AreOfUrls};
 
 use crate::sums::Sums;

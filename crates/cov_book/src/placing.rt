@@ -9,7 +9,7 @@ ghost use Rattle.cov_text.specs.Listing.{inserted, text_cmp};
 ghost use Rattle.cov_model.specs.Sums.{file_order};
 ghost use Rattle.cov_model.specs.declared.sums.Key.{Key};
 ghost use Rattle.cov_book.specs.declared.sums.Sums.{Sums};
-ghost use Rattle.cov_book.specs.Entries.{ArePrepared, is_among, sums_now};
+ghost use Rattle.cov_book.specs.Prepared.{ArePrepared, is_among, sums_now};
 ghost use Rattle.cov_book.specs.Urls.{urls_of, with_urls};
 
 use crate::sums::Sums;

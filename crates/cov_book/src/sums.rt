@@ -3,7 +3,7 @@ ghost use Rattle.std.specs.Prelude.{◌≡◌, ◌+◌, ◌≤◌, None, IfOk, I
 ghost use Rattle.std.specs.List.{AllByRecursion};
 ghost use Rattle.cov_model.specs.Nesting.{range_fault};
 ghost use Rattle.cov_text.specs.Listing.{limit};
-ghost use Rattle.cov_book.specs.Entries.{report_sums, sum_two, IsWithin, IfPast};
+ghost use Rattle.cov_book.specs.Prepared.{report_sums, sum_two, IsWithin, IfPast};
 
 use cov_model::{FunctionReport, Range, Steps};
 use cov_steps::{Runs, StepFault};

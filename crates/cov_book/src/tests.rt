@@ -52,11 +52,11 @@ struct Outcome {
     fault: Option<SumFault>,
 }
 
-fn outcome(alloc: Global, snapshots: &[Snapshot]) -> Result<Outcome, Fail> {
-    counted_outcome::<Brand>(alloc, snapshots, Blank::new(1))
+fn all_added(alloc: Global, snapshots: &[Snapshot]) -> Result<Outcome, Fail> {
+    all_counted::<Brand>(alloc, snapshots, Blank::new(1))
 }
 
-fn counted_outcome<L: Ledger>(
+fn all_counted<L: Ledger>(
     alloc: Global,
     snapshots: &[Snapshot],
     blank: Blank,
@@ -105,7 +105,7 @@ fn three(alloc: Global) -> Result<Book, Fail> {
         snapshot(alloc, A, false, &[range(0, 100, 2), range(20, 60, 0)])?,
         snapshot(alloc, B, false, &[range(0, 10, 1)])?,
     ];
-    Ok(outcome(alloc, &snapshots)?.book)
+    Ok(all_added(alloc, &snapshots)?.book)
 }
 
 #[test]
@@ -165,7 +165,7 @@ fn a_sum_past_the_limit(rt: HostRuntime) -> Result<(), Fail> {
         snapshot(alloc, A, true, &[range(0, 10, 1), range(2, 4, GREATEST)])?,
         snapshot(alloc, A, true, &[range(0, 10, 1), range(3, 5, 2)])?,
     ];
-    let outcome = outcome(alloc, &snapshots)?;
+    let outcome = all_added(alloc, &snapshots)?;
     let fault = outcome.fault.ok_or("no fault")?;
     assert_eq!(rt; (fault.key.start, fault.key.end), (0, 10));
     assert_eq!(rt; fault.at, At::Offset(2));

@@ -2,8 +2,8 @@ use Rattle.std.proofs.Common.{◌≤◌, ◌+◌, ◌∷◌, sym, ap, ◌∙◌,
 use Rattle.std.specs.Prelude.{sum_by}
 use Rattle.std.proofs.lemmas.List.{drop_more, drop_all}
 use Rattle.std.proofs.lemmas.Result.{err_from_is_err_and}
-use Rattle.cov_book.specs.Cost.{for_reports, own_runs, runs_at}
-use Rattle.cov_book.specs.Entries.{ArePrepared, IfOnePast, with_report, with_reports}
+use Rattle.cov_book.specs.Spent.{for_reports, own_runs, runs_at}
+use Rattle.cov_book.specs.Prepared.{ArePrepared, IfOnePast, with_report, with_reports}
 use Rattle.cov_book.proofs.Costs.{rest-grows, rest-within, rest-cost}
 use Rattle.cov_book.proofs.Preparing.{past-reports}
 use Rattle.cov_book.proofs.adding.add_script.Goals as goal

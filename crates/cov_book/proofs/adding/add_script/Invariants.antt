@@ -2,8 +2,8 @@ use Rattle.std.proofs.Common.{◌≡◌, ◌≤◌, ◌+◌, ℕ, List, drop}
 use Rattle.std.specs.Prelude.{sum_by}
 use Rattle.cov_model.specs.declared.sums.Key.{Key}
 use Rattle.cov_book.specs.declared.sums.Sums.{Sums}
-use Rattle.cov_book.specs.Cost.{for_reports, own_runs, runs_at}
-use Rattle.cov_book.specs.Entries.{ArePrepared, CanGoOn, with_reports}
+use Rattle.cov_book.specs.Spent.{for_reports, own_runs, runs_at}
+use Rattle.cov_book.specs.Prepared.{ArePrepared, CanGoOn, with_reports}
 use Rattle.cov_book.proofs.adding.add_script.Given as goal
 
 -- what is left makes of the sums so far what all make of those at first

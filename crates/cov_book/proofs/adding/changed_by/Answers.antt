@@ -1,8 +1,8 @@
 use Rattle.std.proofs.Common.{◌≤◌, ◌+◌, ◌∷◌, sym, ap, ◌∙◌, subst, drop, arith}
 use Rattle.std.proofs.lemmas.List.{drop_more}
 use Rattle.std.proofs.lemmas.Result.{err_from_is_err_and}
-use Rattle.cov_book.specs.Cost.{for_entries, own_all, runs_at}
-use Rattle.cov_book.specs.Entries.{IfOnePast, with_reports, with_entries}
+use Rattle.cov_book.specs.Spent.{for_entries, own_all, runs_at}
+use Rattle.cov_book.specs.Prepared.{IfOnePast, with_reports, with_entries}
 use Rattle.cov_book.proofs.Costs.{script-grows, script-within, script-cost}
 use Rattle.cov_book.proofs.Preparing.{past-entries}
 use Rattle.cov_book.proofs.adding.changed_by.Goals as goal

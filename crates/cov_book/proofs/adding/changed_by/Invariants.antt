@@ -1,8 +1,8 @@
 use Rattle.std.proofs.Common.{◌≡◌, ◌≤◌, ◌+◌, ℕ, List, drop}
 use Rattle.cov_model.specs.declared.sums.Key.{Key}
 use Rattle.cov_book.specs.declared.sums.Sums.{Sums}
-use Rattle.cov_book.specs.Cost.{for_entries, own_all, runs_at}
-use Rattle.cov_book.specs.Entries.{ArePrepared, with_entries}
+use Rattle.cov_book.specs.Spent.{for_entries, own_all, runs_at}
+use Rattle.cov_book.specs.Prepared.{ArePrepared, with_entries}
 use Rattle.cov_book.proofs.adding.changed_by.Given as goal
 
 -- what is left makes of the sums so far what all make of those at first

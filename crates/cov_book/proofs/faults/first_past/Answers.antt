@@ -3,7 +3,7 @@ use Rattle.std.specs.Prelude.{Some, cond, find, option_copied, sum_by}
 use Rattle.cov_model.specs.declared.sums.At.TheVariants.{Root, Offset}
 use Rattle.cov_text.specs.Listing.{offsets}
 use Rattle.cov_book.specs.Counts.{weight}
-use Rattle.cov_book.specs.Entries.{held_weight, passes_over}
+use Rattle.cov_book.specs.Prepared.{held_weight, passes_over}
 use Rattle.cov_book.specs.Stretching.{TellsSums}
 use Rattle.cov_book.proofs.Stretched.{tests-told}
 use Rattle.cov_book.proofs.faults.first_past.Goals as goal

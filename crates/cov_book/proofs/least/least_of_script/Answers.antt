@@ -1,6 +1,6 @@
 use Rattle.std.proofs.Common.{◌+◌, ◌∷◌, sym, ap, ◌∙◌, subst, drop, arith}
 use Rattle.std.proofs.lemmas.List.{drop_more, drop_all}
-use Rattle.cov_book.specs.Entries.{with_report, with_reports}
+use Rattle.cov_book.specs.Prepared.{with_report, with_reports}
 use Rattle.cov_book.specs.Least.{IsLeastSoFar}
 use Rattle.cov_book.proofs.least.least_of_script.Goals as goal
 

@@ -1,7 +1,7 @@
 use Rattle.std.proofs.Common.{◌≡◌, ◌≤◌, List, drop}
 use Rattle.cov_model.specs.declared.sums.Key.{Key}
 use Rattle.cov_book.specs.declared.sums.Sums.{Sums}
-use Rattle.cov_book.specs.Entries.{with_reports}
+use Rattle.cov_book.specs.Prepared.{with_reports}
 use Rattle.cov_book.specs.Least.{CanGoOnLeast, IsLeastSoFar}
 use Rattle.cov_book.proofs.least.least_of_script.Given as goal
 

@@ -1,6 +1,6 @@
 use Rattle.std.proofs.Common.{◌+◌, ◌∷◌, refl, sym, ap, ◌∙◌, subst, drop, arith}
 use Rattle.std.proofs.lemmas.List.{drop_more, drop_all}
-use Rattle.cov_book.specs.Entries.{with_reports, with_entries}
+use Rattle.cov_book.specs.Prepared.{with_reports, with_entries}
 use Rattle.cov_book.specs.Least.{IsLeastPast}
 use Rattle.cov_book.proofs.Candidate.{least-start, least-done}
 use Rattle.cov_book.proofs.least.least_past.Goals as goal

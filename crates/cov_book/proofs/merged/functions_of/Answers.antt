@@ -1,5 +1,5 @@
 use Rattle.std.specs.Map.Iter.{deref_pair}
-use Rattle.cov_book.specs.Entries.{IsAligned}
+use Rattle.cov_book.specs.Prepared.{IsAligned}
 use Rattle.cov_book.proofs.Nested.{All-at}
 use Rattle.cov_book.proofs.merged.functions_of.Goals as goal
 

@@ -1,6 +1,6 @@
 use Rattle.std.proofs.Common.{◌≡◌, ◌++◌, map, drop}
 use Rattle.std.specs.Map.Iter.{deref_pair}
-use Rattle.cov_book.specs.Entries.{told_report}
+use Rattle.cov_book.specs.Prepared.{told_report}
 use Rattle.cov_book.specs.Told.{front}
 use Rattle.cov_book.proofs.merged.functions_of.Given as goal
 

@@ -2,7 +2,7 @@ use Rattle.std.proofs.Common.{◌≡◌, ◌++◌, length, drop, map, sym, ap, �
 use Rattle.std.specs.Map.Iter.{deref, deref_pair}
 use Rattle.std.proofs.lemmas.Map.Iter.{rest_more}
 use Rattle.cov_model.specs.declared.snapshot.Entry.{Entry}
-use Rattle.cov_book.specs.Entries.{AreAligned, IsAligned, told_report}
+use Rattle.cov_book.specs.Prepared.{AreAligned, IsAligned, told_report}
 use Rattle.cov_book.specs.Told.{front}
 use Rattle.cov_book.proofs.Walked.{behind, walk, walk-all, rises, All-drop, drop-map, count-told, told-fits, walk-more}
 use Rattle.cov_book.proofs.merged.scripts_of.Goals as goal

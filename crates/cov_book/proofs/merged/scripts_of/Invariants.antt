@@ -1,6 +1,6 @@
 use Rattle.std.proofs.Common.{◌≡◌, ◌++◌, map}
 use Rattle.std.specs.Map.Iter.{deref_pair}
-use Rattle.cov_book.specs.Entries.{AreAligned, told_entry}
+use Rattle.cov_book.specs.Prepared.{AreAligned, told_entry}
 use Rattle.cov_book.proofs.Walked.{walk}
 use Rattle.cov_book.proofs.merged.scripts_of.Given as goal
 

@@ -3,7 +3,7 @@ use Rattle.std.specs.Prelude.{cond}
 use Rattle.std.specs.BTreeMap.{get}
 use Rattle.cov_model.specs.declared.sums.Key.{Key}
 use Rattle.cov_model.specs.Sums.{file_order}
-use Rattle.cov_book.specs.Entries.{is_among, sums_now}
+use Rattle.cov_book.specs.Prepared.{is_among, sums_now}
 use Rattle.std.specs.BTreeMap.{IsOrdered}
 use Rattle.cov_book.proofs.placing.move_sums.Given as goal
 

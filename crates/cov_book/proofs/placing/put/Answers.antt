@@ -3,7 +3,7 @@ use Rattle.std.specs.Prelude.{cond, not}
 use Rattle.std.specs.BTreeSet.{contains}
 use Rattle.std.proofs.lemmas.Map.Lookups.{btree_set_from_contains}
 use Rattle.cov_text.specs.Listing.{inserted, text_cmp}
-use Rattle.cov_book.specs.Entries.{is_among}
+use Rattle.cov_book.specs.Prepared.{is_among}
 use Rattle.cov_book.specs.Urls.{urls_of}
 use Rattle.cov_book.proofs.Ordered.{text_total, text_exact}
 use Rattle.cov_book.proofs.Placed.{among-filter, and-not, fresh-enough, urls-back}

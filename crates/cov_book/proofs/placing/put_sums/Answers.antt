@@ -2,7 +2,7 @@ use Rattle.std.proofs.Common.{None, sym, ap, ◌∙◌}
 use Rattle.std.specs.Prelude.{cond}
 use Rattle.std.specs.BTreeMap.{get}
 use Rattle.cov_model.specs.Sums.{file_order}
-use Rattle.cov_book.specs.Entries.{is_among}
+use Rattle.cov_book.specs.Prepared.{is_among}
 use Rattle.cov_book.proofs.Placed.{same-entries, left-there, sums-back}
 use Rattle.cov_book.proofs.placing.put_sums.Goals as goal
 

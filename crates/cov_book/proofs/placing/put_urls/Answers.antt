@@ -2,7 +2,7 @@ use Rattle.std.proofs.Common.{◌∙◌}
 use Rattle.std.specs.BTreeSet.{contains}
 use Rattle.std.proofs.lemmas.Map.Lookups.{btree_set_from_contains}
 use Rattle.cov_text.specs.Listing.{text_cmp}
-use Rattle.cov_book.specs.Entries.{is_among}
+use Rattle.cov_book.specs.Prepared.{is_among}
 use Rattle.cov_book.proofs.Ordered.{text_total, text_exact}
 use Rattle.cov_book.proofs.Placed.{left-alone}
 use Rattle.cov_book.proofs.placing.put_urls.Goals as goal

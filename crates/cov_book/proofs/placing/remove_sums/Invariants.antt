@@ -3,7 +3,7 @@ use Rattle.std.specs.Prelude.{cond}
 use Rattle.std.specs.BTreeMap.{get}
 use Rattle.cov_model.specs.declared.sums.Key.{Key}
 use Rattle.cov_model.specs.Sums.{file_order}
-use Rattle.cov_book.specs.Entries.{is_among}
+use Rattle.cov_book.specs.Prepared.{is_among}
 use Rattle.std.specs.BTreeMap.{IsOrdered}
 use Rattle.cov_book.proofs.placing.remove_sums.Given as goal
 

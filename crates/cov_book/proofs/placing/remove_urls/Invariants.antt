@@ -2,7 +2,7 @@ use Rattle.std.proofs.Common.{◌≡◌, ℕ, List, false, drop}
 use Rattle.std.specs.Prelude.{cond}
 use Rattle.std.specs.BTreeSet.{contains}
 use Rattle.cov_text.specs.Listing.{text_cmp}
-use Rattle.cov_book.specs.Entries.{is_among}
+use Rattle.cov_book.specs.Prepared.{is_among}
 use Rattle.std.specs.BTreeSet.{IsOrdered}
 use Rattle.cov_book.proofs.placing.remove_urls.Given as goal
 

@@ -3,7 +3,7 @@ use Rattle.std.specs.Prelude.{IsSome}
 use Rattle.std.specs.BTreeMap.{get}
 use Rattle.cov_model.specs.declared.sums.Key.{Key}
 use Rattle.cov_model.specs.Sums.{file_order}
-use Rattle.cov_book.specs.Entries.{sums_now}
+use Rattle.cov_book.specs.Prepared.{sums_now}
 use Rattle.std.specs.BTreeMap.{IsOrdered}
 use Rattle.cov_book.proofs.placing.replace_sums.Given as goal
 

@@ -3,7 +3,7 @@ use Rattle.std.proofs.lemmas.Result.{IfOk-weaker}
 use Rattle.cov_model.specs.declared.snapshot.Snapshot.{Snapshot}
 use Rattle.cov_model.specs.File.{scripts}
 use Rattle.cov_model.specs.Sums.{keys_in_order}
-use Rattle.cov_book.specs.Entries.{told_entry}
+use Rattle.cov_book.specs.Prepared.{told_entry}
 use Rattle.cov_book.specs.Stands.{AreUpright, StandsFor}
 use Rattle.cov_book.proofs.Agreeing.{agree-scripts}
 use Rattle.cov_book.proofs.Nested.{keys-upright}
