@@ -14,7 +14,7 @@ fn main(rt: HostRuntime) -> ExitCode {
         Ok(words) => words,
         Err(error) if error.kind() == ErrorKind::OutOfMemory => {
             let _ = err.write("fault: memory\n".as_bytes());
-            return ExitCode::from(Ended::NoMemory.code());
+            return Ended::NoMemory.status();
         }
         // Words that are no text are taken for none.
         Err(_) => Vec::new(rt.alloc()),
@@ -22,7 +22,7 @@ fn main(rt: HostRuntime) -> ExitCode {
     let mut store = FolderStore::new(rt);
     let mut out = StreamSink::new(rt.stdout());
     let ended = run_tool(rt.alloc(), words.as_slice(), &mut store, &mut out, &mut err);
-    ExitCode::from(ended.code())
+    ended.status()
 }
 
 // The words after the program's name.

@@ -1,6 +1,6 @@
 -- What the commands answer.
-use Rattle.std.proofs.Common.{◌≡◌, ℕ, ◌<◌, Bool, true, false, List, [], ◌∷◌, ◌++◌, length, take, refl, sym, ap, ap₂, ◌∙◌, subst, arith, inl, inr}
-use Rattle.std.specs.Prelude.{Option, None, Some, Ok, Err, option_map, option_and_then, unwrap_or, cond, ◌||◌, ◌↔◌, IsTrue, nat_lt, codes}
+use Rattle.std.proofs.Common.{◌≡◌, ℕ, ◌<◌, Bool, true, false, List, [], ◌++◌, length, take, refl, sym, ap, ap₂, ◌∙◌, subst, arith, inl, inr}
+use Rattle.std.specs.Prelude.{Option, None, Some, Ok, Err, map, option_map, unwrap_or, cond, ◌||◌, ◌↔◌, IsTrue, nat_lt, codes}
 use Rattle.std.specs.List.{list_any}
 use Rattle.std.proofs.lemmas.Bool.{lt-ltb, le-ltb, cases_lt, false≢true}
 use Rattle.std.proofs.lemmas.List.{take_all, length-take-le}
@@ -16,26 +16,32 @@ use Rattle.cov_model.specs.Reading.{reading, shaped, snapshot_of}
 use Rattle.cov_io.specs.Told.{Files, bytes_at, names_in}
 use Rattle.cov_book.specs.declared.book.Book.{Book}
 use Rattle.cov_book.specs.Stands.{StandsFor}
-use Rattle.cov_words.specs.Asked.{command_of}
-use Rattle.cov_words.specs.declared.command.Command.{Command}
-use Rattle.cov_commands.specs.declared.due.Due.{Due}
+use Rattle.cov_commands.specs.Owed.{Owed}
 use Rattle.cov_commands.specs.declared.ended.Ended.{Ended}
-use Rattle.cov_commands.specs.declared.ended.Ended.TheVariants.{Done, Different, SomeRefused}
+use Rattle.cov_commands.specs.declared.ended.Ended.TheVariants.{Done, Different}
 use Rattle.cov_commands.specs.declared.gather.Merged.{Merged}
 use Rattle.cov_commands.specs.Deciding.{same_sums, is_normal}
-use Rattle.cov_commands.specs.Due.{readings, due, due_of, refused_or_done, merge_due, same_answer, same_due, accepted_due, refused_due, normal_answer, normal_due, DifferInSums}
-use Rattle.cov_commands.specs.Ends.{IsFinished}
+use Rattle.cov_commands.specs.Due.{readings, text_at, text_paths, refused_or_done, same_answer, same_due, accepted_due, refused_due, normal_answer, normal_due, DifferInSums}
+use Rattle.cov_laws.specs.Laws.{AreRead}
+use Rattle.cov_laws.proofs.OfTexts.{accepted_read}
+use Rattle.std.proofs.lemmas.Simd.{map-map}
 use Rattle.cov_commands.specs.Gather.{HasTaken}
 use Rattle.cov_commands.specs.Lines.{is_refusal}
 use Rattle.cov_commands.proofs.Decided.{told-same, sums-Decides, normal-is, is-normal, none-normal}
 
 -- ---- `same`
 
+-- what is accepted of a folder's texts was read
+pub folder-read : (folder : List ℕ) (files : Files) → AreRead (accepted (readings folder files))
+folder-read folder files =
+    let paths = text_paths folder files in
+    subst (λ (rs : List Reading). AreRead (accepted rs)) (map-map reading (text_at files) paths) (accepted_read (map (text_at files) paths))
+
 -- what is said of two folders that were taken
-pub same-is-due : (one other : List ℕ) (files : Files) (b c : Book) (m n : Merged) (agree : Bool) (due : Due)
+pub same-is-due : (one other : List ℕ) (files : Files) (b c : Book) (m n : Merged) (agree : Bool) (owed : Owed)
     → HasTaken one files (names_in one files) b m → HasTaken other files (names_in other files) c n → IsTrue agree ↔ (b ≡ c)
-    → due ≡ same_answer agree (m.lines ++ n.lines) (m.refused || n.refused) → due ≡ same_due one other files
-same-is-due one other files b c m n agree due h k told is =
+    → owed ≡ same_answer agree (m.lines ++ n.lines) (m.refused || n.refused) → owed ≡ same_due one other files
+same-is-due one other files b c m n agree owed h k told is =
     let rs = readings one files in
     let qs = readings other files in
     let agrees : agree ≡ same_sums (held_of (accepted rs)) (held_of (accepted qs)) = told-same agree b c told ∙ ap₂ same_sums h.book.sums k.book.sums in
@@ -71,7 +77,7 @@ found-there (Some text) bytes e none = absurd cc
 
 -- ---- what the ends say
 
-no-same-end : (refused : Bool) → refused_or_done refused ≡ Different → ⊥
+pub no-same-end : (refused : Bool) → refused_or_done refused ≡ Different → ⊥
 no-same-end true e = absurd cc
 no-same-end false e = absurd cc
 
@@ -129,16 +135,6 @@ tells-normal path files ended is = (
     there false true e done = normal-is bytes e
     there false false e done = absurd cc
 
--- the book's file, the lines and the end are those of the folder
-pub merge-is-due : (folder : List ℕ) (files : Files) (b : Book) (m : Merged) (text : List ℕ) (due : Due)
-    → HasTaken folder files (names_in folder files) b m → ((held : List Snapshot) → StandsFor b held → text ≡ file held)
-    → due ≡ record { out = text; err = m.lines; ended = refused_or_done m.refused } → due ≡ merge_due folder files
-merge-is-due folder files b m text due h written is =
-    let out = written (accepted (readings folder files)) h.book in
-    let lines = h.lines in
-    let refused = h.refused in
-    is ∙ (λ i. record { out = out i; err = lines i; ended = refused_or_done (refused i) })
-
 -- what is due for a normal file, and for a file that is none
 pub normal-due : (path bytes : List ℕ) (s : Snapshot) → IsNormalFileOf s bytes → normal_answer path bytes ≡ accepted_due
 normal-due path bytes s normal = rw (short-read bytes s normal.read, is-normal bytes s normal) refl
@@ -147,24 +143,3 @@ pub none-due : (path bytes : List ℕ) → (max_text < length bytes → ⊥) →
 none-due path bytes short none =
     let not_long : nat_lt max_text (length bytes) ≡ false = elim (cases_lt max_text (length bytes)) [ inl longer ↦ absurd (short longer) | inr le ↦ le-ltb max_text (length bytes) le ] in
     rw (not_long, none-normal bytes none) refl
-
-pub answer-finished : (path bytes : List ℕ) → IsFinished (normal_answer path bytes).ended
-answer-finished path bytes = by (nat_lt max_text (length bytes)) (is_normal bytes)
-  where
-    by : (long normal : Bool) → IsFinished (cond long (refused_due path (codes "too long")) (cond normal accepted_due (refused_due path (codes "not normal")))).ended
-    by true normal = tt
-    by false true = tt
-    by false false = tt
-
--- ---- what is due for words
-
-pub due-is : (words : List (List ℕ)) (told : Option Files) (command : Command) (d : Due) → command_of words ≡ Some command → due words told ≡ Some d
-    → (files : Files) × (told ≡ Some files) × (due_of command files ≡ d)
-due-is words told command d is owed = by told refl (sym (ap (option_and_then (λ (c : Command). option_map (due_of c) told)) is) ∙ owed)
-  where
-    by : (o : Option Files) → told ≡ o → option_map (due_of command) told ≡ Some d → (files : Files) × (told ≡ Some files) × (due_of command files ≡ d)
-    by None e given = absurd (let none : None ≡ Some d = sym (ap (option_map (due_of command)) e) ∙ given in cc)
-    by (Some files) e given = (files, e, (let some : Some (due_of command files) ≡ Some d = sym (ap (option_map (due_of command)) e) ∙ given in cc))
-
-pub same-command : (words : List (List ℕ)) (one other : Command) → command_of words ≡ Some one → command_of words ≡ Some other → one ≡ other
-same-command words one other e f = let same : Some one ≡ Some other = sym e ∙ f in cc

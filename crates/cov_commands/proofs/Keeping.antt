@@ -1,6 +1,6 @@
 -- One more text's map entries.
 use Rattle.std.proofs.Common.{◌≡◌, ℕ, ◌<◌, true, false, List, [], ◌∷◌, ◌++◌, length, take, map, refl, sym, ap, ap₂, ◌∙◌, subst, arith, inl, inr}
-use Rattle.std.specs.Prelude.{Option, None, Some, Result, Ok, Err, option_map, unwrap_or, cond, nat_lt}
+use Rattle.std.specs.Prelude.{Option, None, Some, Ok, Err, option_map, unwrap_or, cond, nat_lt}
 use Rattle.std.proofs.lemmas.Bool.{lt-ltb, cases_lt}
 use Rattle.std.proofs.lemmas.List.{append-nil, map-append, take_all, length-take-le, append_assoc}
 use Rattle.cov_text.specs.Listing.{max_text}

@@ -1,4 +1,4 @@
--- The statuses of the program.
+-- The numbers that the program ends with, by which a caller tells its answers.
 use Rattle.std.specs.Prelude.{ℕ}
 use Rattle.cov_commands.specs.declared.ended.Ended.{Ended}
 use Rattle.cov_commands.specs.declared.ended.Ended.TheVariants.{Done, Different, Below, Usage, SomeRefused, ReadFault, WriteFault, NoMemory}

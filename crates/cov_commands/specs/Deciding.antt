@@ -2,7 +2,6 @@
 use Rattle.std.specs.Prelude.{ℕ, Bool, true, false, ◌&&◌, ◌==◌, List, [], ◌∷◌, Ok, Err}
 use Rattle.std.specs.Cmp.Lexicographic.{pointwise}
 use Rattle.cov_text.specs.Listing.{same_text}
-use Rattle.cov_model.specs.declared.snapshot.Snapshot.{Snapshot}
 use Rattle.cov_model.specs.File.{file}
 use Rattle.cov_model.specs.Held.{Held, FunctionSums}
 use Rattle.cov_model.specs.Outcome.{Reading}

@@ -1,5 +1,5 @@
 -- What each command owes: what goes to the output, what goes to the error sink, and how it ends.
-use Rattle.std.specs.Prelude.{◌≡◌, ◌⊎◌, ◌++◌, ◌||◌, ℕ, Bool, List, [], ◌∷◌, map, filter, length, nat_eq, nat_lt, if◌then◌else◌, Option, None, Some, option_map, option_and_then, unwrap_or, true, codes, IsFalse, IsSomeAnd}
+use Rattle.std.specs.Prelude.{◌≡◌, ◌++◌, ◌||◌, ℕ, Bool, List, [], map, filter, length, nat_eq, nat_lt, if◌then◌else◌, Option, None, unwrap_or, codes, IsFalse}
 use Rattle.std.specs.List.{list_any, ends_with}
 use Rattle.cov_text.specs.Listing.{max_text}
 use Rattle.cov_model.specs.declared.snapshot.Snapshot.{Snapshot}
@@ -8,10 +8,6 @@ use Rattle.cov_model.specs.Held.{held_of}
 use Rattle.cov_model.specs.Reading.{reading}
 use Rattle.cov_model.specs.Outcome.{Reading, accepted, answers}
 use Rattle.cov_io.specs.Told.{Files, bytes_at, path_in, names_in, is_among, IsToldAnd}
-use Rattle.cov_words.specs.Asked.{command_of}
-use Rattle.cov_words.specs.declared.command.Command.{Command}
-use Rattle.cov_words.specs.declared.command.Command.TheVariants.{Merge, Same, Normal}
-use Rattle.cov_words.specs.declared.command.Command.TheVariants as commands
 use Rattle.cov_words.specs.declared.command.Form.{Form}
 use Rattle.cov_words.specs.declared.command.Form.TheVariants as forms
 use Rattle.source_maps.specs.Entries.{Said}
@@ -25,7 +21,7 @@ use Rattle.cov_report.specs.Report.{report}
 use Rattle.cov_report.specs.Texts.{entries_of_taken, skip_lines}
 use Rattle.cov_commands.specs.declared.ended.Ended.{Ended}
 use Rattle.cov_commands.specs.declared.ended.Ended.TheVariants.{Done, Different, Below, SomeRefused}
-use Rattle.cov_commands.specs.declared.due.Due.{Due}
+use Rattle.cov_commands.specs.Owed.{Owed}
 use Rattle.cov_commands.specs.Lines.{answer_lines, is_refusal, refused}
 use Rattle.cov_commands.specs.Deciding.{same_sums, is_normal}
 
@@ -63,13 +59,13 @@ abbrev pub refused_or_done : Bool → Ended
 refused_or_done refused = if refused then SomeRefused else Done
 
 -- The one normal file of the accepted texts, and the lines of the refused ones in order.
-abbrev pub merge_due : List ℕ → Files → Due
+abbrev pub merge_due : List ℕ → Files → Owed
 merge_due folder files =
     let rs = readings folder files in
     record { out = file (accepted rs); err = answer_lines (text_paths folder files) (answers rs); ended = refused_or_done (list_any is_refusal (answers rs)) }
 
 -- what is due where the sums of two folders agree, or don't, with these lines, and where a text was refused, or none
-abbrev pub same_answer : Bool → List ℕ → Bool → Due
+abbrev pub same_answer : Bool → List ℕ → Bool → Owed
 same_answer agree lines refused =
     record {
       out = (if agree then codes "same\n" else codes "different\n");
@@ -79,7 +75,7 @@ same_answer agree lines refused =
 
 -- Whether the accepted texts of both folders come to the same sums, and the lines of the refused ones, those of the first
 -- folder before those of the second.
-abbrev pub same_due : List ℕ → List ℕ → Files → Due
+abbrev pub same_due : List ℕ → List ℕ → Files → Owed
 same_due one other files =
     let rs = readings one files in
     let qs = readings other files in
@@ -88,26 +84,30 @@ same_due one other files =
     (list_any is_refusal (answers rs) || list_any is_refusal (answers qs))
 
 -- what is due for a file that is refused for this
-abbrev pub refused_due : List ℕ → List ℕ → Due
+abbrev pub refused_due : List ℕ → List ℕ → Owed
 refused_due path why = record { out = []; err = refused path why; ended = SomeRefused }
 
 -- what is due for a normal file
-abbrev pub accepted_due : Due
+abbrev pub accepted_due : Owed
 accepted_due = record { out = codes "normal\n"; err = []; ended = Done }
 
 -- What is due for these bytes of the file at a path: they are too long, or a normal file, or none.
-abbrev pub normal_answer : List ℕ → List ℕ → Due
+abbrev pub normal_answer : List ℕ → List ℕ → Owed
 normal_answer path bytes =
     if nat_lt max_text (length bytes) then refused_due path (codes "too long")
     else if is_normal bytes then accepted_due
     else refused_due path (codes "not normal")
 
-abbrev pub normal_due : List ℕ → Files → Due
+abbrev pub normal_due : List ℕ → Files → Owed
 normal_due path files = normal_answer path (unwrap_or (bytes_at path files) [])
 
 -- the two lists come to other sums: another url, function, flag, root sum or sum at an offset
 abbrev pub DifferInSums : List Snapshot → List Snapshot → Type 0
 DifferInSums one other = held_of one ≡ held_of other → ⊥
+
+-- their merged files are not equal bytes
+abbrev pub DifferInBytes : List Snapshot → List Snapshot → Type 0
+DifferInBytes one other = file one ≡ file other → ⊥
 
 -- ---- reports
 
@@ -134,15 +134,15 @@ abbrev pub has_refusal : List ℕ → Files → Bool
 has_refusal folder files = list_any is_refusal (answers (readings folder files))
 
 -- what is due for a report in a form, with these lines, and where a text was refused, or none
-abbrev pub report_answer : Form → List FileParts → List ℕ → Bool → Due
+abbrev pub report_answer : Form → List FileParts → List ℕ → Bool → Owed
 report_answer form reported lines refused = record { out = text_in form reported; err = lines; ended = refused_or_done refused }
 
-abbrev pub report_due : Form → List ℕ → Files → Due
+abbrev pub report_due : Form → List ℕ → Files → Owed
 report_due form folder files = report_answer form (report_in folder files).files (report_lines folder files) (has_refusal folder files)
 
 -- What is due for a report that is checked against thresholds of lines, branches and functions: a line for each share that is
 -- below its own. A share that is below stands before a refused text.
-abbrev pub check_answer : ℕ → ℕ → ℕ → List FileParts → List ℕ → Bool → Due
+abbrev pub check_answer : ℕ → ℕ → ℕ → List FileParts → List ℕ → Bool → Owed
 check_answer lines branches functions reported written refused =
     record {
       out = check_text (summary reported) lines branches functions;
@@ -150,23 +150,11 @@ check_answer lines branches functions reported written refused =
       ended = (if misses (summary reported) lines branches functions then Below else refused_or_done refused);
     }
 
-abbrev pub check_due : ℕ → ℕ → ℕ → List ℕ → Files → Due
+abbrev pub check_due : ℕ → ℕ → ℕ → List ℕ → Files → Owed
 check_due lines branches functions folder files =
     check_answer lines branches functions (report_in folder files).files (report_lines folder files) (has_refusal folder files)
 
--- ---- each command
-
--- what a command owes over these files
-abbrev pub due_of : Command → Files → Due
-due_of (Merge folder) files = merge_due folder files
-due_of (Same one other) files = same_due one other files
-due_of (Normal path) files = normal_due path files
-due_of (commands.Report folder form) files = report_due form folder files
-due_of (commands.Check folder lines branches functions) files = check_due lines branches functions folder files
-
--- what the words ask of a store that tells its files
-abbrev pub due : List (List ℕ) → Option Files → Option Due
-due words told = option_and_then (λ command. option_map (due_of command) told) (command_of words)
+-- ---- what is absent
 
 -- the store tells its folders, and this is none of them
 abbrev pub FolderIsMissing : Option (List (List ℕ)) → List ℕ → Type 0
@@ -175,15 +163,3 @@ FolderIsMissing told folder = IsToldAnd told (λ folders. IsFalse (is_among fold
 -- the store tells its files, and none is at this path
 abbrev pub FileIsMissing : Option Files → List ℕ → Type 0
 FileIsMissing told path = IsToldAnd told (λ files. bytes_at path files ≡ None)
-
--- a folder or file of the command is absent from what the store tells
-abbrev pub IsMissing : Command → Option Files → Option (List (List ℕ)) → Type 0
-IsMissing (Merge folder) files folders = FolderIsMissing folders folder
-IsMissing (Same one other) files folders = FolderIsMissing folders one ⊎ FolderIsMissing folders other
-IsMissing (Normal path) files folders = FileIsMissing files path
-IsMissing (commands.Report folder form) files folders = FolderIsMissing folders folder
-IsMissing (commands.Check folder lines branches functions) files folders = FolderIsMissing folders folder
-
--- a folder or file that the words name is absent from what the store tells
-abbrev pub NamesAbsent : List (List ℕ) → Option Files → Option (List (List ℕ)) → Type 0
-NamesAbsent words files folders = IsSomeAnd (command_of words) (λ command. IsMissing command files folders)

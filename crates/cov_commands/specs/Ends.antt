@@ -1,6 +1,5 @@
 -- How a command ends, and what it then leaves.
-use Rattle.std.specs.Prelude.{◌≡◌, ℕ, List, [], ◌++◌, take, Option, codes}
-use Rattle.std.specs.Io.KnownBytes.{Appends}
+use Rattle.std.specs.Prelude.{◌≡◌, ℕ, List, [], codes}
 use Rattle.cov_io.specs.Causes.{Rose}
 use Rattle.cov_io.specs.declared.store.StoreFault.{StoreFault}
 use Rattle.cov_io.specs.declared.store.StoreFault.TheVariants as store
@@ -41,10 +40,6 @@ last_line ReadFault = codes "fault: read\n"
 last_line WriteFault = codes "fault: write\n"
 last_line NoMemory = codes "fault: memory\n"
 
--- told bytes grow by a prefix of the first text, and then by a prefix of the second
-abbrev pub AppendsParts : Option (List ℕ) → Option (List ℕ) → List ℕ → List ℕ → Type 0
-AppendsParts before now first second = (m : ℕ) × (n : ℕ) × Appends before now (take m first ++ take n second)
-
 -- how a fault of the store ends a command
 abbrev pub IsEndedBy : StoreFault → Ended → Type 0
 IsEndedBy Failed ended = ended ≡ ReadFault
@@ -61,14 +56,3 @@ HasWriteCause before now SomeRefused = ⊥
 HasWriteCause before now ReadFault = ⊥
 HasWriteCause before now WriteFault = Rose before now
 HasWriteCause before now NoMemory = Unit {0}
-
--- the words were taken
-abbrev pub IsTakenEnd : Ended → Type 0
-IsTakenEnd Done = Unit {0}
-IsTakenEnd Different = Unit {0}
-IsTakenEnd Below = Unit {0}
-IsTakenEnd Usage = ⊥
-IsTakenEnd SomeRefused = Unit {0}
-IsTakenEnd ReadFault = Unit {0}
-IsTakenEnd WriteFault = Unit {0}
-IsTakenEnd NoMemory = Unit {0}

@@ -7,3 +7,8 @@ pub mod Gather
 pub mod Counting
 pub mod Reporting
 pub mod Sure
+pub mod Owed
+pub mod Sinks
+pub mod Stores
+pub mod Call
+pub mod Tool

@@ -1,7 +1,10 @@
 //! How a command ends.
 ghost use Rattle.std.specs.Prelude.{◌≡◌};
+ghost use Rattle.std.specs.Process.{exit_status};
 ghost use Rattle.cov_commands.specs.Code.{code_of};
 ghost use Rattle.cov_commands.specs.Due.{refused_or_done};
+
+use std::process::ExitCode;
 
 /// The answer of a command.
 #[derive(Clone, Copy, Debug, PartialEq, Eq)]
@@ -25,7 +28,7 @@ pub enum Ended {
 }
 
 impl Ended {
-    /// The status that the program ends with.
+    /// The number that the program ends with.
     pub fn code(&self) -> u8
         ensures { result ≡ code_of self.now }
     {
@@ -39,6 +42,13 @@ impl Ended {
             Ended::WriteFault => 5,
             Ended::NoMemory => 6,
         }
+    }
+
+    /// The status that `main` hands to the system: this number, and no other.
+    pub fn status(&self) -> ExitCode
+        ensures { exit_status result ≡ code_of self.now }
+    {
+        ExitCode::from(self.code())
     }
 }
 

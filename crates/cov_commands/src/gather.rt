@@ -1,9 +1,9 @@
 //! Taking the texts of a folder one after the other.
-ghost use Rattle.std.specs.Prelude.{◌≡◌, ◌≤◌, ◌<◌, ◌⊎◌, [], ◌∷◌, ◌++◌, ◌||◌, ℕ, List, None, Ok, map, string_bytes, IfOk, IfErr, OnOk, OnErr};
-ghost use Rattle.cov_io.specs.Causes.{Rose};
-ghost use Rattle.cov_io.specs.Told.{WhereTold, IsToldAnd, bytes_at, path_in, names_in, FolderIsThere};
+ghost use Rattle.std.specs.Prelude.{◌≡◌, ◌<◌, [], ◌∷◌, ◌++◌, ◌||◌, ℕ, List, None, Ok, map, string_bytes, IfOk, IfErr, OnOk, OnErr};
+ghost use Rattle.cov_io.specs.Told.{WhereTold, path_in, names_in, FolderIsThere};
 ghost use Rattle.cov_commands.specs.Due as due;
-ghost use Rattle.cov_commands.specs.Due.{FolderIsMissing};
+ghost use Rattle.cov_commands.specs.Due.{FileIsMissing, FolderIsMissing};
+ghost use Rattle.cov_commands.specs.Stores.{StillTells, Stopped, store_at};
 ghost use Rattle.cov_commands.specs.Gather.{HasKept, HasTaken, kept_if};
 ghost use Rattle.cov_commands.specs.Ends.{IsEndedBy};
 ghost use Rattle.cov_model.specs.declared.snapshot.Snapshot.{Snapshot};
@@ -66,13 +66,13 @@ pub fn gather<S: Store>(
     ensures entries { IfOk result (λ merged. WhereTold (S.files store.old) (λ files.
         HasKept maps folder.now files (names_in folder.now files) merged)) }
     ensures there { OnOk result (FolderIsThere (S.folders store.old) folder.now) }
-    ensures read { IfErr result (λ ended. ended ≡ Ended.ReadFault
-        → Rose (S.faults store.old) (S.faults store.new) ⊎ FolderIsMissing (S.folders store.old) folder.now) }
-    ensures only { IfErr result (λ ended. (ended ≡ Ended.ReadFault) ⊎ (ended ≡ Ended.NoMemory)) }
-    ensures later { S.faults store.old ≤ S.faults store.new }
     ensures kept { OnOk result (S.faults store.new ≡ S.faults store.old) }
-    ensures files { S.files store.new ≡ S.files store.old }
-    ensures folders { S.folders store.new ≡ S.folders store.old }
+    ensures stops { IfErr result (Stopped (FolderIsMissing (S.folders store.old) folder.now)
+        (store_at store.old (S.files store.old) (S.folders store.old) (S.faults store.old))
+        (store_at store.new (S.files store.new) (S.folders store.new) (S.faults store.new))) }
+    ensures still { StillTells
+        (store_at store.old (S.files store.old) (S.folders store.old) (S.faults store.old))
+        (store_at store.new (S.files store.new) (S.folders store.new) (S.faults store.new)) }
 {
     let names = match store.list(alloc, folder) {
         Ok(names) => names,
@@ -126,13 +126,13 @@ fn take_name<S: Store>(
         → HasTaken folder.now files names book.old merged.old
         → HasKept maps folder.now files names merged.old
         → HasKept maps folder.now files (names ++ name.now ∷ []) merged.new)) }
-    ensures read { IfErr result (λ ended. ended ≡ Ended.ReadFault → Rose (S.faults store.old) (S.faults store.new)
-        ⊎ IsToldAnd (S.files store.old) (λ files. bytes_at (path_in folder.now name.now) files ≡ None)) }
-    ensures only { IfErr result (λ ended. (ended ≡ Ended.ReadFault) ⊎ (ended ≡ Ended.NoMemory)) }
-    ensures later { S.faults store.old ≤ S.faults store.new }
     ensures kept { OnOk result (S.faults store.new ≡ S.faults store.old) }
-    ensures files { S.files store.new ≡ S.files store.old }
-    ensures folders { S.folders store.new ≡ S.folders store.old }
+    ensures stops { IfErr result (Stopped (FileIsMissing (S.files store.old) (path_in folder.now name.now))
+        (store_at store.old (S.files store.old) (S.folders store.old) (S.faults store.old))
+        (store_at store.new (S.files store.new) (S.folders store.new) (S.faults store.new))) }
+    ensures still { StillTells
+        (store_at store.old (S.files store.old) (S.folders store.old) (S.faults store.old))
+        (store_at store.new (S.files store.new) (S.folders store.new) (S.faults store.new)) }
 {
     if !is_json(name) {
         return Ok(());
@@ -163,7 +163,7 @@ fn path_of(alloc: Global, folder: &str, name: &str) -> Result<String, AllocError
     format!(in alloc; "{folder}/{name}")
 }
 
-/// Adds a text to the book, with its map entries where they are kept, or refuses it with its line.
+/// Takes a text: reads it, adds it to the book, and keeps its line where it is refused, its map entries where they are kept.
 fn take_text(
     alloc: Global,
     book: &mut Book,
@@ -204,20 +204,20 @@ fn answer_of(
         ++ kept_if maps (entries_if_taken bytes.now answer)) }
 {
     match read_for(alloc, bytes, maps) {
-        Ok((snapshot, found)) => match add_counted::<Brand>(book, &snapshot, Blank::new(1)) {
-            Ok(()) => {
+        Ok((snapshot, found)) => match add(book, &snapshot)? {
+            Answer::Taken => {
                 keep(entries, found)?;
                 Ok(Answer::Taken)
             }
-            Err(AddFault::Sum(fault)) => Ok(Answer::Past(fault)),
-            Err(AddFault::NoMemory) => Err(AllocError),
+            Answer::Past(fault) => Ok(Answer::Past(fault)),
+            Answer::Bad(fault) => Ok(Answer::Bad(fault)),
         },
         Err(TextFault::NoMemory) => Err(AllocError),
         Err(fault) => Ok(Answer::Bad(fault)),
     }
 }
 
-/// The snapshot that a text is, and its map entries where they are kept.
+/// The snapshot that a text is, and its map entries where they are kept. It asks no book, so texts can be read side by side.
 fn read_for(
     alloc: Global,
     bytes: &[u8],
@@ -241,6 +241,20 @@ fn keep(entries: &mut Vec<MapEntry>, found: Items<MapEntry>) -> Result<(), Alloc
 {
     let mut more = found.into_vec();
     entries.append(&mut more)
+}
+
+/// Adds a snapshot to the book, or refuses it for a sum past the limit, and answers which.
+fn add(book: &mut Book, snapshot: &Snapshot) -> Result<Answer, AllocError>
+    ensures book { OnOk result ((held : List Snapshot) → StandsFor book.old held
+        → StandsFor book.new (after held (Ok snapshot.now))) }
+    ensures answer { IfOk result (λ answer. (held : List Snapshot) → StandsFor book.old held
+        → answer ≡ answer_to held (Ok snapshot.now)) }
+{
+    match add_counted::<Brand>(book, snapshot, Blank::new(1)) {
+        Ok(()) => Ok(Answer::Taken),
+        Err(AddFault::Sum(fault)) => Ok(Answer::Past(fault)),
+        Err(AddFault::NoMemory) => Err(AllocError),
+    }
 }
 
 /// Adds a snapshot, with a counter of steps that nobody reads.

@@ -4,6 +4,9 @@ ghost use Rattle.cov_io.specs.Causes.{Rose};
 ghost use Rattle.cov_io.specs.Told.{WhereTold, FolderIsThere};
 ghost use Rattle.cov_commands.specs.Due.{merge_due, FolderIsMissing};
 ghost use Rattle.cov_commands.specs.Ends.{IsFinished};
+ghost use Rattle.cov_commands.specs.Owed.{Gives};
+ghost use Rattle.cov_commands.specs.Stores.{store_at};
+ghost use Rattle.cov_commands.specs.Tool.{merge_reader, reading_duty};
 
 use crate::Ended;
 use crate::due::Due;
@@ -18,16 +21,9 @@ use std::alloc::Global;
 /// What `merge FOLDER` owes: reads the folder's texts in byte order of their names, and sums those that are snapshots
 /// and fit. The one normal file of these is for the output.
 pub fn merge<S: Store>(alloc: Global, store: &mut S, folder: &str) -> Result<Due, Ended>
-    ensures due { IfOk result (λ due. WhereTold (S.files store.old) (λ files. due ≡ merge_due folder.now files)) }
-    ensures ends { IfOk result (λ due. IsFinished due.ended) }
-    ensures there { OnOk result (FolderIsThere (S.folders store.old) folder.now) }
-    ensures read { IfErr result (λ ended. ended ≡ Ended.ReadFault
-        → Rose (S.faults store.old) (S.faults store.new) ⊎ FolderIsMissing (S.folders store.old) folder.now) }
-    ensures only { IfErr result (λ ended. (ended ≡ Ended.ReadFault) ⊎ (ended ≡ Ended.NoMemory)) }
-    ensures later { S.faults store.old ≤ S.faults store.new }
-    ensures kept { OnOk result (S.faults store.new ≡ S.faults store.old) }
-    ensures files { S.files store.new ≡ S.files store.old }
-    ensures folders { S.folders store.new ≡ S.folders store.old }
+    ensures { Gives (reading_duty (merge_reader folder.now))
+        (store_at store.old (S.files store.old) (S.folders store.old) (S.faults store.old))
+        (store_at store.new (S.files store.new) (S.folders store.new) (S.faults store.new)) result }
 {
     let mut book = Book::new(alloc);
     let merged = match gather(alloc, store, &mut book, folder, Maps::Left) {

@@ -4,6 +4,9 @@ ghost use Rattle.cov_io.specs.Causes.{Rose};
 ghost use Rattle.cov_io.specs.Told.{WhereTold};
 ghost use Rattle.cov_commands.specs.Due.{accepted_due, normal_answer, normal_due, refused_due, FileIsMissing};
 ghost use Rattle.cov_commands.specs.Ends.{IsFinished};
+ghost use Rattle.cov_commands.specs.Owed.{Gives, owed_of};
+ghost use Rattle.cov_commands.specs.Stores.{store_at};
+ghost use Rattle.cov_commands.specs.Tool.{normal_reader, reading_duty};
 
 use crate::Ended;
 use crate::due::Due;
@@ -16,16 +19,9 @@ use std::alloc::{AllocError, Global};
 
 /// What `normal FILE` owes: reads the file, and says whether it is a normal file.
 pub fn normal<S: Store>(alloc: Global, store: &mut S, path: &str) -> Result<Due, Ended>
-    ensures due { IfOk result (λ due. WhereTold (S.files store.old) (λ files. due ≡ normal_due path.now files)) }
-    ensures ends { IfOk result (λ due. IsFinished due.ended) }
-    ensures there { OnOk result (FileIsMissing (S.files store.old) path.now → ⊥) }
-    ensures read { IfErr result (λ ended. ended ≡ Ended.ReadFault
-        → Rose (S.faults store.old) (S.faults store.new) ⊎ FileIsMissing (S.files store.old) path.now) }
-    ensures only { IfErr result (λ ended. (ended ≡ Ended.ReadFault) ⊎ (ended ≡ Ended.NoMemory)) }
-    ensures later { S.faults store.old ≤ S.faults store.new }
-    ensures kept { OnOk result (S.faults store.new ≡ S.faults store.old) }
-    ensures files { S.files store.new ≡ S.files store.old }
-    ensures folders { S.folders store.new ≡ S.folders store.old }
+    ensures { Gives (reading_duty (normal_reader path.now))
+        (store_at store.old (S.files store.old) (S.folders store.old) (S.faults store.old))
+        (store_at store.new (S.files store.new) (S.folders store.new) (S.faults store.new)) result }
 {
     let bytes = match store.read(alloc, path, MOST) {
         Ok(bytes) => bytes,
@@ -39,7 +35,7 @@ pub fn normal<S: Store>(alloc: Global, store: &mut S, path: &str) -> Result<Due,
 
 /// What is due for these bytes of the file at a path.
 fn judged(alloc: Global, path: &str, bytes: &[u8]) -> Result<Due, AllocError>
-    ensures { IfOk result (λ due. due ≡ normal_answer path.now bytes.now) }
+    ensures { IfOk result (λ due. owed_of due ≡ normal_answer path.now bytes.now) }
 {
     match read_normal(alloc, bytes) {
         Ok(_) => accepted_file(alloc),
@@ -51,7 +47,7 @@ fn judged(alloc: Global, path: &str, bytes: &[u8]) -> Result<Due, AllocError>
 
 /// What is due for a normal file.
 fn accepted_file(alloc: Global) -> Result<Due, AllocError>
-    ensures { IfOk result (λ due. due ≡ accepted_due) }
+    ensures { IfOk result (λ due. owed_of due ≡ accepted_due) }
 {
     let out = Items::from_slice(alloc, b"normal\n")?;
     Ok(Due {
@@ -63,7 +59,7 @@ fn accepted_file(alloc: Global) -> Result<Due, AllocError>
 
 /// What is due for a file that is refused for this.
 fn refused_file(alloc: Global, path: &str, why: &[u8]) -> Result<Due, AllocError>
-    ensures { IfOk result (λ due. due ≡ refused_due path.now why.now) }
+    ensures { IfOk result (λ due. owed_of due ≡ refused_due path.now why.now) }
 {
     let line = refused(alloc, path, why)?;
     Ok(Due {

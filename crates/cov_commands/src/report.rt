@@ -6,6 +6,9 @@ ghost use Rattle.istanbul_json.specs.Gives.{ArePathsInOrder};
 ghost use Rattle.cov_commands.specs.Counting.{CountsSkips};
 ghost use Rattle.cov_commands.specs.Due.{report_due, text_in, FolderIsMissing};
 ghost use Rattle.cov_commands.specs.Ends.{IsFinished};
+ghost use Rattle.cov_commands.specs.Owed.{Gives};
+ghost use Rattle.cov_commands.specs.Stores.{store_at};
+ghost use Rattle.cov_commands.specs.Tool.{report_reader, reading_duty};
 
 use crate::Ended;
 use crate::due::Due;
@@ -27,16 +30,9 @@ pub fn report<S: Store>(
     folder: &str,
     form: Form,
 ) -> Result<Due, Ended>
-    ensures due { IfOk result (λ due. WhereTold (S.files store.old) (λ files. due ≡ report_due form folder.now files)) }
-    ensures ends { IfOk result (λ due. IsFinished due.ended) }
-    ensures there { OnOk result (FolderIsThere (S.folders store.old) folder.now) }
-    ensures read { IfErr result (λ ended. ended ≡ Ended.ReadFault
-        → Rose (S.faults store.old) (S.faults store.new) ⊎ FolderIsMissing (S.folders store.old) folder.now) }
-    ensures only { IfErr result (λ ended. (ended ≡ Ended.ReadFault) ⊎ (ended ≡ Ended.NoMemory)) }
-    ensures later { S.faults store.old ≤ S.faults store.new }
-    ensures kept { IfOk result (λ due. CountsSkips folder.now (S.files store.old) (S.faults store.old) (S.faults store.new) due.err) }
-    ensures files { S.files store.new ≡ S.files store.old }
-    ensures folders { S.folders store.new ≡ S.folders store.old }
+    ensures { Gives (reading_duty (report_reader form folder.now))
+        (store_at store.old (S.files store.old) (S.folders store.old) (S.faults store.old))
+        (store_at store.new (S.files store.new) (S.folders store.new) (S.faults store.new)) result }
 {
     let found = match report_folder(alloc, store, folder) {
         Ok(found) => found,

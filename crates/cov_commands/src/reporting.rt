@@ -1,10 +1,10 @@
 //! The report of a folder's texts.
-ghost use Rattle.std.specs.Prelude.{◌≡◌, ◌≤◌, ◌⊎◌, ◌++◌, IfOk, IfErr, OnOk};
-ghost use Rattle.cov_io.specs.Causes.{Rose};
+ghost use Rattle.std.specs.Prelude.{◌≡◌, ◌++◌, IfOk, IfErr, OnOk};
 ghost use Rattle.cov_io.specs.Told.{WhereTold, FolderIsThere};
 ghost use Rattle.istanbul_json.specs.Gives.{ArePathsInOrder};
 ghost use Rattle.cov_report.specs.Texts.{skip_lines};
 ghost use Rattle.cov_commands.specs.Due.{FolderIsMissing};
+ghost use Rattle.cov_commands.specs.Stores.{StillTells, Stopped, store_at};
 ghost use Rattle.cov_commands.specs.Counting.{CountsSkips};
 ghost use Rattle.cov_commands.specs.Reporting.{TellsReport};
 
@@ -37,12 +37,12 @@ pub fn report_folder<S: Store>(
     ensures in_order { IfOk result (λ r. ArePathsInOrder r.report.files) }
     ensures counts { IfOk result (λ r. CountsSkips folder.now (S.files store.old) (S.faults store.old) (S.faults store.new) r.lines) }
     ensures there { OnOk result (FolderIsThere (S.folders store.old) folder.now) }
-    ensures read { IfErr result (λ ended. ended ≡ Ended.ReadFault
-        → Rose (S.faults store.old) (S.faults store.new) ⊎ FolderIsMissing (S.folders store.old) folder.now) }
-    ensures only { IfErr result (λ ended. (ended ≡ Ended.ReadFault) ⊎ (ended ≡ Ended.NoMemory)) }
-    ensures later { S.faults store.old ≤ S.faults store.new }
-    ensures files { S.files store.new ≡ S.files store.old }
-    ensures folders { S.folders store.new ≡ S.folders store.old }
+    ensures stops { IfErr result (Stopped (FolderIsMissing (S.folders store.old) folder.now)
+        (store_at store.old (S.files store.old) (S.folders store.old) (S.faults store.old))
+        (store_at store.new (S.files store.new) (S.folders store.new) (S.faults store.new))) }
+    ensures still { StillTells
+        (store_at store.old (S.files store.old) (S.folders store.old) (S.faults store.old))
+        (store_at store.new (S.files store.new) (S.folders store.new) (S.faults store.new)) }
 {
     let mut book = Book::new(alloc);
     let merged = match gather(alloc, store, &mut book, folder, Maps::Kept) {

@@ -4,6 +4,9 @@ ghost use Rattle.cov_io.specs.Causes.{Rose};
 ghost use Rattle.cov_io.specs.Told.{WhereTold, FolderIsThere};
 ghost use Rattle.cov_commands.specs.Due.{same_answer, same_due, FolderIsMissing};
 ghost use Rattle.cov_commands.specs.Ends.{IsFinished};
+ghost use Rattle.cov_commands.specs.Owed.{Gives, owed_of};
+ghost use Rattle.cov_commands.specs.Stores.{store_at};
+ghost use Rattle.cov_commands.specs.Tool.{same_reader, reading_duty};
 
 use crate::Ended;
 use crate::due::Due;
@@ -11,23 +14,16 @@ use crate::ended::refused_or_done;
 use crate::gather::{Maps, Merged, gather};
 use cov_book::Book;
 use cov_io::Store;
+use cov_laws::have_one_file;
 use cov_model::Items;
 use std::alloc::{AllocError, Global};
 
 /// What `same ONE OTHER` owes: reads the texts of both folders, those of the first before those of the second, and says
 /// whether the snapshots that fit come to the same sums.
 pub fn same<S: Store>(alloc: Global, store: &mut S, one: &str, other: &str) -> Result<Due, Ended>
-    ensures due { IfOk result (λ due. WhereTold (S.files store.old) (λ files. due ≡ same_due one.now other.now files)) }
-    ensures ends { IfOk result (λ due. IsFinished due.ended) }
-    ensures there { OnOk result (FolderIsThere (S.folders store.old) one.now) }
-    ensures there_too { OnOk result (FolderIsThere (S.folders store.old) other.now) }
-    ensures read { IfErr result (λ ended. ended ≡ Ended.ReadFault → Rose (S.faults store.old) (S.faults store.new)
-        ⊎ (FolderIsMissing (S.folders store.old) one.now ⊎ FolderIsMissing (S.folders store.old) other.now)) }
-    ensures only { IfErr result (λ ended. (ended ≡ Ended.ReadFault) ⊎ (ended ≡ Ended.NoMemory)) }
-    ensures later { S.faults store.old ≤ S.faults store.new }
-    ensures kept { OnOk result (S.faults store.new ≡ S.faults store.old) }
-    ensures files { S.files store.new ≡ S.files store.old }
-    ensures folders { S.folders store.new ≡ S.folders store.old }
+    ensures { Gives (reading_duty (same_reader one.now other.now))
+        (store_at store.old (S.files store.old) (S.folders store.old) (S.faults store.old))
+        (store_at store.new (S.files store.new) (S.folders store.new) (S.faults store.new)) result }
 {
     let mut first = Book::new(alloc);
     let found = match gather(alloc, store, &mut first, one, Maps::Left) {
@@ -39,7 +35,7 @@ pub fn same<S: Store>(alloc: Global, store: &mut S, one: &str, other: &str) -> R
         Ok(more) => more,
         Err(ended) => return Err(ended),
     };
-    let agree = first.agrees(&second);
+    let agree = have_one_file(&first, &second);
     match answered(alloc, agree, found, more) {
         Ok(due) => Ok(due),
         Err(_) => Err(Ended::NoMemory),
@@ -48,7 +44,7 @@ pub fn same<S: Store>(alloc: Global, store: &mut S, one: &str, other: &str) -> R
 
 /// What is due where the two folders' sums agree, or don't.
 fn answered(alloc: Global, agree: bool, found: Merged, more: Merged) -> Result<Due, AllocError>
-    ensures { IfOk result (λ due. due ≡ same_answer agree (found.lines ++ more.lines) (found.refused || more.refused)) }
+    ensures { IfOk result (λ due. owed_of due ≡ same_answer agree (found.lines ++ more.lines) (found.refused || more.refused)) }
 {
     let mut lines = found.lines;
     lines.extend_from_slice(more.lines.as_slice())?;

@@ -22,17 +22,20 @@ loop-name-init g c =
       folders = c.in-Ok.ensures.folders;
     }
 
-pub returns-in-Err-take_name-clause-read : goal.returns-in-Err-take_name-clause-read
-returns-in-Err-take_name-clause-read g c =
-    λ is. elim (c.in-Err-take_name.ensures.read is) [
-      | inl rose ↦ inl (subst (λ n. Rose n (g.S.Store.faults c.take_name.new.store)) c.loop-name.invariant.faults rose)
-      | inr missing ↦
-          let k = c.loop-name.name-index in
-          let d = c.name-item.result in
-          let items = c.in-Ok.names.items in
-          let named : map string_bytes items ≡ names_in c.args.folder.now missing.0 = c.in-Ok.ensures.names missing.0 (sym c.loop-name.invariant.files ∙ missing.1) in
-          let below : k < length items = subst (λ xs. k < length xs) c.as_slice-name-items.ensures.value c.loop-name-test.true in
-          let name : string_bytes (get_or items k d) ≡ c.as_str.result.now =
-          ap (λ xs. string_bytes (get_or xs k d)) (sym c.as_slice-name-items.ensures.value) ∙ ap string_bytes (sym c.name-item.is) ∙ sym c.as_str.ensures.value in
-          absurd ((subst (λ n. HasFile missing.0 (path_in c.args.folder.now n)) name (listed-HasFile c.args.folder.now missing.0 items k d named below)) missing.2)
-    ]
+pub returns-in-Err-take_name-clause-stops : goal.returns-in-Err-take_name-clause-stops
+returns-in-Err-take_name-clause-stops g c =
+    record {
+      only = c.in-Err-take_name.ensures.stops.only;
+      read = λ is. elim (c.in-Err-take_name.ensures.stops.read is) [
+        | inl rose ↦ inl (subst (λ n. Rose n (g.S.Store.faults c.take_name.new.store)) c.loop-name.invariant.faults rose)
+        | inr missing ↦
+            let k = c.loop-name.name-index in
+            let d = c.name-item.result in
+            let items = c.in-Ok.names.items in
+            let named : map string_bytes items ≡ names_in c.args.folder.now missing.0 = c.in-Ok.ensures.names missing.0 (sym c.loop-name.invariant.files ∙ missing.1) in
+            let below : k < length items = subst (λ xs. k < length xs) c.as_slice-name-items.ensures.value c.loop-name-test.true in
+            let name : string_bytes (get_or items k d) ≡ c.as_str.result.now =
+            ap (λ xs. string_bytes (get_or xs k d)) (sym c.as_slice-name-items.ensures.value) ∙ ap string_bytes (sym c.name-item.is) ∙ sym c.as_str.ensures.value in
+            absurd ((subst (λ n. HasFile missing.0 (path_in c.args.folder.now n)) name (listed-HasFile c.args.folder.now missing.0 items k d named below)) missing.2)
+      ];
+    }

@@ -1,4 +1,4 @@
-use Rattle.std.proofs.Common.{◌≡◌, ℕ, List, ◌++◌, map, ap, ◌∙◌, subst}
+use Rattle.std.proofs.Common.{List, ◌++◌, map, ap, ◌∙◌, subst}
 use Rattle.source_maps.specs.Entries.{said}
 use Rattle.source_maps.specs.declared.entries.MapEntry.{MapEntry}
 use Rattle.cov_io.specs.Causes.{Rose}
@@ -17,7 +17,7 @@ returns-in-Ok-with_skips-clause-tells g c =
     (
     is-report-in folder files c.gather.new.book c.in-Ok.merged c.in-Ok-report_of.report (c.in-Ok.ensures.taken files told) (c.in-Ok.ensures.entries files told)
     (λ held stands.
-    c.in-Ok-report_of.ensures.report held stands files (c.in-Ok.ensures.files ∙ told)
+    c.in-Ok-report_of.ensures.report held stands files (c.in-Ok.ensures.still.files ∙ told)
     ∙ ap (λ (entries : List MapEntry). reports.report held (map said entries) files) c.as_slice.ensures.value)
     )
     (c.in-Ok-with_skips.ensures ∙ ap (λ (skips : List Skip). c.in-Ok.merged.lines ++ skip_lines skips) c.as_slice-2.ensures)
@@ -34,10 +34,10 @@ returns-in-Ok-with_skips-clause-counts g c =
           (
           is-report-in folder files c.gather.new.book c.in-Ok.merged c.in-Ok-report_of.report (c.in-Ok.ensures.taken files told) (c.in-Ok.ensures.entries files told)
           (λ held stands.
-          c.in-Ok-report_of.ensures.report held stands files (c.in-Ok.ensures.files ∙ told)
+          c.in-Ok-report_of.ensures.report held stands files (c.in-Ok.ensures.still.files ∙ told)
           ∙ ap (λ (entries : List MapEntry). reports.report held (map said entries) files) c.as_slice.ensures.value)
           );
       kept = λ none. c.in-Ok-report_of.ensures.kept none ∙ c.in-Ok.ensures.kept;
       untold = λ nothing absent.
-          subst (λ n. Rose n (g.S.Store.faults c.report_of.new.store)) c.in-Ok.ensures.kept (c.in-Ok-report_of.ensures.untold (c.in-Ok.ensures.files ∙ nothing) absent);
+          subst (λ n. Rose n (g.S.Store.faults c.report_of.new.store)) c.in-Ok.ensures.kept (c.in-Ok-report_of.ensures.untold (c.in-Ok.ensures.still.files ∙ nothing) absent);
     }

@@ -1,4 +1,4 @@
-use Rattle.cov_commands.proofs.gather.answer_of.Given as goal
+use Rattle.cov_commands.proofs.gather.add.Given as goal
 
 -- the ledger of a counter that was just made
 abbrev pub ghosts-add_counted : goal.ghosts-add_counted
