@@ -3,3 +3,4 @@ pub mod Laws
 pub mod Nests
 pub mod NestedLaws
 pub mod Stack
+pub mod Read

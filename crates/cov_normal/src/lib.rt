@@ -1,7 +1,11 @@
-//! The normal list of a function: its root, then the longest runs of counts that differ from the root's.
+//! The normal lists of a function: the flat one and the nested one.
 //!
-//! Of a root, its count and the counts at its offsets there is exactly one such list, so that equal sums are written
-//! equally. Offsets are those of the DevTools protocol's `CoverageRange`: UTF-16 units of the script, ends exclusive.
+//! The flat list is its root, then the longest runs of counts that differ from the root's. The nested list keeps a range
+//! whole round what runs inside it: it is the root, then as few ranges as a stack of open ranges needs.
+//!
+//! Of a root, its count and the counts at its offsets there is exactly one list of each form, so that equal sums are
+//! written equally. Offsets are those of the DevTools protocol's `CoverageRange`: UTF-16 units of the script, ends
+//! exclusive.
 #![tactic(auto)]
 
 pub mod laws;

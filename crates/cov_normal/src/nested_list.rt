@@ -1,11 +1,10 @@
 //! From runs to the nested normal list, and back.
-ghost use Rattle.std.specs.Prelude.{◌≡◌, ◌↔◌, ◌∷◌, ◌<◌, None, IsTrue, IfOk, nat_eq};
+ghost use Rattle.std.specs.Prelude.{◌≡◌, ◌↔◌, ◌∷◌, ◌<◌, None, IsTrue, IfOk};
 ghost use Rattle.cov_model.specs.Nested.{nested};
 ghost use Rattle.cov_model.specs.Nesting.{range_fault, inner_count};
 ghost use Rattle.cov_steps.specs.Runs.{count_in, counted};
-ghost use Rattle.std.specs.HashMap.{get};
 ghost use Rattle.cov_normal.specs.NestedLaws.{IsNested};
-ghost use Rattle.cov_normal.specs.Stack.{IsNesting, AllShow, AreEndToEnd};
+ghost use Rattle.cov_normal.specs.Read.{HasRead};
 
 use crate::list::{counts_of, report_of};
 use crate::nesting::Nesting;
@@ -44,7 +43,7 @@ fn nesting_of<L: Ledger>(
 ) -> Result<Nesting, AllocError>
     requires name { blank.name ≡ L.name }
     requires parts { (blank.parts ≡ L.parts) × (0 < L.parts) }
-    ensures { IfOk result (λ nesting. IsNesting (count_in runs.now.runs) runs.now.start root runs.now.end nesting.ranges.items nesting.stack.items (get nat_eq nesting.heights)) }
+    ensures { IfOk result (HasRead (count_in runs.now.runs) runs.now.start root runs.now.end) }
 {
     let mut steps: Steps<L> = Steps::new(blank);
     let mut nesting = Nesting::new(alloc, runs.start(), root)?;

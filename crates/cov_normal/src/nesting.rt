@@ -1,9 +1,7 @@
 //! Nested ranges that grow with the runs of a function.
-ghost use Rattle.std.specs.Prelude.{◌≡◌, ℕ, ◌++◌, ◌∷◌, [], ◌<◌, Option, Some, suc, length, slice_get, slice_set, nat_eq, take, OnOk, IfOk};
-ghost use Rattle.std.specs.HashMap.{get};
-ghost use Rattle.cov_model.specs.declared.report.Range.{Range};
-ghost use Rattle.cov_model.specs.Normal.{range};
-ghost use Rattle.cov_normal.specs.Stack.{IsNesting, Shows, height_in, root_ended};
+ghost use Rattle.std.specs.Prelude.{◌≡◌, ℕ, ◌++◌, ◌∷◌, [], ◌<◌, Some, suc, length, take, OnOk, IfOk};
+ghost use Rattle.cov_normal.specs.Stack.{root_ended};
+ghost use Rattle.cov_normal.specs.Read.{HasRead, Reads, height_at, height_told, EndsAt, IsPut, OthersStay};
 
 use cov_model::Range;
 use std::alloc::{AllocError, Global};
@@ -22,7 +20,7 @@ pub(crate) struct Nesting {
 impl Nesting {
     // A root where nothing was read: it ends where it starts.
     pub(crate) fn new(alloc: Global, start: u32, count: u64) -> Result<Nesting, AllocError>
-        ensures { IfOk result (λ nesting. (f : ℕ → ℕ) → IsNesting f start count start nesting.ranges.items nesting.stack.items (get nat_eq nesting.heights)) }
+        ensures { IfOk result (λ nesting. (f : ℕ → ℕ) → HasRead f start count start nesting) }
     {
         let mut ranges = Vec::new(alloc);
         ranges.push(Range {
@@ -44,7 +42,7 @@ impl Nesting {
     // Reads one run more. A range with its count that may go on does, and those above it on the stack are over; where
     // there is none, a range begins.
     pub(crate) fn go_on(&mut self, run: Range) -> Result<(), AllocError>
-        ensures { OnOk result ((f : ℕ → ℕ) (start count : ℕ) → IsNesting f start count run.start self.old.ranges.items self.old.stack.items (get nat_eq self.old.heights) → Shows f run → IsNesting f start count run.end self.new.ranges.items self.new.stack.items (get nat_eq self.new.heights)) }
+        ensures { OnOk result (Reads run self.old self.new) }
     {
         match self.height_of(run.count) {
             Some(height) => self.grow(height, run.end),
@@ -55,7 +53,7 @@ impl Nesting {
 
     // How high on the stack the range with this count is, if there is one.
     fn height_of(&self, count: u64) -> Option<usize>
-        ensures { result ≡ height_in self.now.ranges.items self.now.stack.items count (get nat_eq self.now.heights count) }
+        ensures { result ≡ height_at self.now count }
     {
         let height = self.heights.get(&count).copied()?;
         let place = self.stack.get(height).copied()?;
@@ -72,7 +70,7 @@ impl Nesting {
         requires { height < length self.old.stack.items }
         ensures heights { self.new.heights ≡ self.old.heights }
         ensures kept { self.new.stack.items ≡ take (suc height) self.old.stack.items }
-        ensures ended { (place : ℕ) (r : Range) → slice_get self.old.stack.items height ≡ Some place → slice_get self.old.ranges.items place ≡ Some r → self.new.ranges.items ≡ slice_set self.old.ranges.items place (range r.start end r.count) }
+        ensures ended { EndsAt height end self.old self.new.ranges.items }
     {
         let place = self.stack[height];
         self.stack.truncate(height + 1);
@@ -84,9 +82,9 @@ impl Nesting {
     // Lists a range that goes on from the run.
     fn begin(&mut self, run: Range) -> Result<(), AllocError>
         ensures ranges { OnOk result (self.new.ranges.items ≡ self.old.ranges.items ++ run ∷ []) }
-        ensures stack { OnOk result (self.new.stack.items ≡ self.old.stack.items ++ length self.old.ranges.items ∷ []) }
-        ensures here { OnOk result (get nat_eq self.new.heights run.count ≡ Some (length self.old.stack.items)) }
-        ensures others { OnOk result ((count : ℕ) → ¬ (count ≡ run.count) → get nat_eq self.new.heights count ≡ get nat_eq self.old.heights count) }
+        ensures stack { OnOk result (IsPut self.old self.new.stack.items) }
+        ensures here { OnOk result (height_told self.new run.count ≡ Some (length self.old.stack.items)) }
+        ensures others { OnOk result (OthersStay run.count self.old self.new) }
     {
         self.heights.insert(run.count, self.stack.len())?;
         self.stack.push(self.ranges.len())?;
