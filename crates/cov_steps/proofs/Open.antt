@@ -5,8 +5,7 @@ use Rattle.std.proofs.lemmas.Bool.{cases_lt, lt-ltb, le-ltb}
 use Rattle.cov_text.specs.Listing.{last_of}
 use Rattle.cov_model.specs.declared.report.Range.{Range}
 use Rattle.cov_model.specs.Normal.{range, maximal_runs}
-use Rattle.cov_steps.specs.Walking.{pushed}
-use Rattle.cov_steps.specs.Order.{ends_behind, last_count, open_count, Painted, pushed_between}
+use Rattle.cov_steps.specs.Walking.{pushed, ends_behind, last_count, open_count, Painted, pushed_between}
 use Rattle.cov_steps.proofs.Maximal.{maximal_runs-pushed}
 
 pub filter-behind : {A : Type 0} (p : A → Bool) (xs : List A) (x : A) → filter p (xs ++ x ∷ []) ≡ filter p xs ++ cond (p x) (x ∷ []) []

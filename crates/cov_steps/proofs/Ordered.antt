@@ -7,7 +7,7 @@ use Rattle.cov_text.specs.Listing.{last_of}
 use Rattle.cov_model.specs.declared.report.Range.{Range}
 use Rattle.cov_model.specs.Nesting.{size, has_offset, crosses, each_pair, is_shortest}
 use Rattle.cov_model.specs.Normal.{each_next}
-use Rattle.cov_steps.specs.Order.{precedes}
+use Rattle.cov_steps.specs.Walking.{precedes}
 use Rattle.cov_steps.proofs.Checks.{and-both, both-and, all-more}
 
 -- ---- from neighbours to pairs

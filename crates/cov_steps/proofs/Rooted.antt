@@ -6,12 +6,14 @@ use Rattle.std.specs.List.Sorted.{IsPermutation, IsSortedBy, IsStableBy}
 use Rattle.std.proofs.lemmas.Bool.{le-leb, lt-ltb}
 use Rattle.std.proofs.lemmas.Bool.Decides.{nat_tests}
 use Rattle.std.proofs.lemmas.List.{take_more}
+use Rattle.std.proofs.lemmas.List.Sorted.{IsPermutation-refl}
 use Rattle.cov_text.specs.Listing.{first_of}
 use Rattle.cov_model.specs.declared.report.Range.{Range}
 use Rattle.cov_model.specs.Nesting.{has_offset, crosses, each_pair, range_fault, is_well_nested, inner, inner_count}
 use Rattle.cov_model.specs.Normal.{each_next, maximal_runs}
 use Rattle.cov_ranges.proofs.Nested.{nested-from-faultless, inner-root}
-use Rattle.cov_steps.specs.Order.{comes_first, precedes, lies_in, ends_behind, last_count, last_at, open_count, starts_from, Walkable}
+use Rattle.cov_steps.specs.Order.{comes_first}
+use Rattle.cov_steps.specs.Walking.{precedes, lies_in, ends_behind, last_count, last_at, open_count, starts_from, Walkable}
 use Rattle.cov_steps.proofs.Checks.{and-both, both-and, all-more}
 use Rattle.cov_steps.specs.Runs.{count_in}
 use Rattle.cov_steps.specs.Laws.{RunsCount}
@@ -89,6 +91,10 @@ sorted-from ranges ordered root faultless first perm sorts stable =
       counts =
           maximal_runs-same root.start root.end (λ o. unwrap_or (last_at ordered o) 0) (inner_count ranges) (λ o low high. ap (λ c. unwrap_or c 0) (sym (same o)));
     }
+
+-- the same of ranges that stand in order as they are
+pub sorted-itself : (ranges : List Range) (root : Range) → range_fault ranges ≡ None → first_of ranges ≡ Some root → IsSortedBy comes_first ranges → Sorted root ranges ranges
+sorted-itself ranges root faultless first sorts = sorted-from ranges ranges root faultless first (IsPermutation-refl ranges) sorts (λ x. refl)
 
 -- ---- what the runs of ranges count
 

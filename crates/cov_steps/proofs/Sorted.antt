@@ -1,7 +1,7 @@
 -- A stable sort into V8's order leaves the innermost count of well nested ranges.
 use Rattle.std.proofs.Common.{◌≡◌, ℕ, suc, ◌+◌, ◌-◌, Bool, true, false, List, [], ◌∷◌, refl, sym, ap, ◌∙◌, subst, arith}
-use Rattle.std.specs.Prelude.{cond, nat_le, nat_lt, ◌&&◌, ◌||◌, not, filter, Option, None, Some, option_map, get_or}
-use Rattle.std.specs.List.{list_all, list_any}
+use Rattle.std.specs.Prelude.{cond, nat_le, nat_lt, ◌↔◌, IsTrue, ◌&&◌, ◌||◌, not, filter, Option, None, Some, option_map, get_or}
+use Rattle.std.specs.List.{list_all, list_any, IsAllAdjacentAnswer}
 use Rattle.std.specs.Cmp.{IsStrictWeakOrder}
 use Rattle.std.specs.List.Sorted.{IsPermutation, IsSortedBy, IsStableBy, ties}
 use Rattle.std.proofs.lemmas.Bool.Decides.{nat_tests}
@@ -9,8 +9,9 @@ use Rattle.std.proofs.lemmas.List.Sorted.{list_any-IsPermutation}
 use Rattle.cov_text.specs.Listing.{last_of}
 use Rattle.cov_model.specs.declared.report.Range.{Range}
 use Rattle.cov_model.specs.Nesting.{size, has_offset, crosses, runs_into, each_pair, is_shortest, innermost, inner}
-use Rattle.cov_model.specs.Normal.{each_next}
-use Rattle.cov_steps.specs.Order.{precedes, comes_first, last_count}
+use Rattle.cov_model.specs.Normal.{range, each_next}
+use Rattle.cov_steps.specs.Order.{comes_first}
+use Rattle.cov_steps.specs.Walking.{precedes, last_count}
 use Rattle.cov_steps.proofs.Checks.{and-both, both-and, all-more}
 use Rattle.cov_steps.proofs.Ordered.{pairs-from-next, sizes-fall, all-last, last-shortest, last-kept}
 
@@ -143,6 +144,17 @@ order-from-sorted (x ∷ y ∷ xs) sorted =
     (order-from-sorted (y ∷ xs) (λ k d low high.
     let next : suc k + 1 ≡ suc (k + 1) = omega arith in
     subst (λ j. comes_first (get_or (x ∷ y ∷ xs) j d) (get_or (y ∷ xs) k d) ≡ false) next (sorted (suc k) d (omega arith) (omega arith))))
+
+-- what a look at each two neighbours answers
+pub sorted-answer : (xs : List Range) (answer : Bool) → IsAllAdjacentAnswer (λ a b r. r ≡ not (comes_first b a)) xs answer → IsTrue answer ↔ IsSortedBy comes_first xs
+sorted-answer xs true each = ((λ e k d low high. not-true (comes_first (get_or xs (k + 1) d) (get_or xs k d)) (each k d high)), (λ sorted. refl))
+  where
+    not-true : (b : Bool) → true ≡ not b → b ≡ false
+    not-true true e = absurd cc
+    not-true false e = refl
+sorted-answer xs false some =
+    let none = range 0 0 0 in
+    ((λ e. absurd cc), (λ sorted. absurd (let e : false ≡ true = some.2 none ∙ ap not (sorted some.0 none (omega arith) some.1) in cc)))
 
 -- ---- the last of the sorted ones is the innermost
 

@@ -1,5 +1,5 @@
 pub mod Runs
 pub mod Sum
-pub mod Walking
 pub mod Order
+pub mod Walking
 pub mod Laws

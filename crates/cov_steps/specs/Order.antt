@@ -1,57 +1,7 @@
--- The order in which V8 lists ranges, and what the walk over them keeps.
-use Rattle.std.specs.Prelude.{◌≡◌, ℕ, ◌<◌, ◌≤◌, Bool, ◌&&◌, ◌||◌, ◌==◌, nat_lt, nat_le, List, true, Option, Some, is_some, option_map, filter, if◌then◌else◌}
-use Rattle.std.specs.List.{list_all}
+-- The order in which V8 lists ranges.
+use Rattle.std.specs.Prelude.{Bool, ◌&&◌, ◌||◌, ◌==◌, nat_lt}
 use Rattle.cov_model.specs.declared.report.Range.{Range}
-use Rattle.cov_text.specs.Listing.{last_of}
-use Rattle.cov_model.specs.Nesting.{has_offset, is_within}
-use Rattle.cov_model.specs.Normal.{range, each_next, maximal_runs}
-use Rattle.cov_steps.specs.Walking.{pushed}
 
 -- it starts first, or at the same offset and ends later
 abbrev pub comes_first : Range → Range → Bool
 comes_first a b = nat_lt a.start b.start || (a.start == b.start && nat_lt b.end a.end)
-
--- it starts first, or at the same offset and ends no sooner
-abbrev pub precedes : Range → Range → Bool
-precedes a b = nat_lt a.start b.start || (a.start == b.start && nat_le b.end a.end)
-
--- it ends no sooner than it starts, and lies in the root
-abbrev pub lies_in : Range → Range → Bool
-lies_in root r = nat_le r.start r.end && is_within root r
-
-abbrev pub ends_behind : ℕ → Range → Bool
-ends_behind o r = nat_lt o r.end
-
--- the count of the last of some ranges
-abbrev pub last_count : List Range → Option ℕ
-last_count ranges = option_map (λ r. r.count) (last_of ranges)
-
--- the count of the last range that has the offset, if there is one
-abbrev pub last_at : List Range → ℕ → Option ℕ
-last_at ranges o = last_count (filter (has_offset o) ranges)
-
--- the count of the last open range that ends behind the offset
-abbrev pub open_count : List Range → ℕ → Option ℕ
-open_count open_ranges o = last_count (filter (ends_behind o) open_ranges)
-
--- The runs go up to `at`, and from there up to `to` the open ranges tell the counts.
-pub record Painted (f : ℕ → ℕ) (start at to : ℕ) (ranges runs : List Range) : Type 0 where
-  pub from : start ≤ at
-  pub done : runs ≡ maximal_runs start at f
-  pub counts : (o : ℕ) → at ≤ o → o < to → open_count ranges o ≡ Some (f o)
-
--- the runs with one more behind them, unless that is empty
-abbrev pub pushed_between : List Range → ℕ → ℕ → ℕ → List Range
-pushed_between runs start end count = if nat_lt start end then pushed runs (range start end count) else runs
-
--- each of the ranges starts at the offset or behind
-abbrev pub starts_from : ℕ → List Range → Bool
-starts_from at ranges = list_all (λ r. nat_le at r.start) ranges
-
--- Ranges in V8's order, which lie in a root, and of which some one has each offset of the root.
-pub record Walkable (root : Range) (ranges : List Range) : Type 0 where
-  pub order : each_next precedes ranges ≡ true
-  pub starts : starts_from root.start ranges ≡ true
-  pub within : list_all (lies_in root) ranges ≡ true
-  pub nonempty : root.start ≤ root.end
-  pub covered : (o : ℕ) → root.start ≤ o → o < root.end → is_some (last_at ranges o) ≡ true

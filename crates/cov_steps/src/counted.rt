@@ -3,23 +3,26 @@ ghost use Rattle.std.specs.Prelude.{◌≡◌, ℕ, ◌≤◌, None, Some, unwra
 ghost use Rattle.cov_text.specs.Listing.{first_of};
 ghost use Rattle.cov_model.specs.Nesting.{range_fault, inner_count};
 ghost use Rattle.cov_model.specs.Normal.{maximal_runs};
-ghost use Rattle.cov_steps.specs.Order.{Walkable, last_at, open_count, Painted, pushed_between};
+ghost use Rattle.cov_steps.specs.Walking.{Walkable, last_at, open_count, Painted, pushed_between};
 
-use crate::order::in_order;
+use crate::order::{are_in_order, in_order};
 use crate::pushing::push_run;
 use crate::runs::Run;
 use cov_model::Range;
 use std::alloc::{AllocError, Global};
 
-// The runs of well nested ranges with this root: they are sorted into V8's order, and walked once.
+// The runs of well nested ranges with this root: they are walked once, in V8's order, into which they are sorted where
+// they don't stand so.
 pub(crate) fn runs_of(alloc: Global, ranges: &[Range], root: Range) -> Result<Vec<Run>, AllocError>
     requires faultless { range_fault ranges.now ≡ None }
     requires root { first_of ranges.now ≡ Some root }
     ensures { IfOk result (λ runs. runs.items ≡ maximal_runs root.start root.end (inner_count ranges.now)) }
 {
+    if are_in_order(ranges) {
+        return runs_in_order(alloc, ranges, root);
+    }
     let ordered = in_order(alloc, ranges)?;
-    let runs = runs_in_order(alloc, ordered.as_slice(), root)?;
-    Ok(runs)
+    runs_in_order(alloc, ordered.as_slice(), root)
 }
 
 // The runs of ranges in V8's order, of which the last one that has an offset counts there.
@@ -28,31 +31,31 @@ fn runs_in_order(alloc: Global, ranges: &[Range], root: Range) -> Result<Vec<Run
     ensures { IfOk result (λ runs. runs.items ≡ maximal_runs root.start root.end (λ o. unwrap_or (last_at ranges.now o) 0)) }
 {
     let mut runs = Vec::new(alloc);
-    let mut open = Vec::new(alloc);
+    let mut opened = Vec::new(alloc);
     let mut at = root.start;
     for r in ranges {
-        reach(&mut open, &mut runs, at, r.start)?;
-        open.push(*r)?;
+        reach(&mut opened, &mut runs, at, r.start)?;
+        opened.push(*r)?;
         at = r.start;
     }
-    reach(&mut open, &mut runs, at, root.end)?;
+    reach(&mut opened, &mut runs, at, root.end)?;
     Ok(runs)
 }
 
 // Lets the runs go on up to an offset, by the open ranges, of which the last one counts, and drops those that end there
 // or before.
-fn reach(open: &mut Vec<Range>, runs: &mut Vec<Run>, from: u32, to: u32) -> Result<(), AllocError>
+fn reach(opened: &mut Vec<Range>, runs: &mut Vec<Run>, from: u32, to: u32) -> Result<(), AllocError>
     requires { from ≤ to }
-    ensures runs { OnOk result ((start : ℕ) (f : ℕ → ℕ) → Painted f start from to open.old.items runs.old.items → runs.new.items ≡ maximal_runs start to f) }
-    ensures rest { OnOk result ((o : ℕ) → to ≤ o → open_count open.new.items o ≡ open_count open.old.items o) }
+    ensures runs { OnOk result ((start : ℕ) (f : ℕ → ℕ) → Painted f start from to opened.old.items runs.old.items → runs.new.items ≡ maximal_runs start to f) }
+    ensures rest { OnOk result ((o : ℕ) → to ≤ o → open_count opened.new.items o ≡ open_count opened.old.items o) }
 {
     let mut at = from;
-    while let Some(top) = open.pop() {
+    while let Some(top) = opened.pop() {
         let end = top.end.min(to);
         push_between(runs, at, end, top.count)?;
         at = at.max(end);
         if to < top.end {
-            open.push(top)?;
+            opened.push(top)?;
             return Ok(());
         }
     }

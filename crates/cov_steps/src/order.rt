@@ -1,5 +1,5 @@
 //! The order in which V8 lists ranges.
-ghost use Rattle.std.specs.Prelude.{◌≡◌, IfOk};
+ghost use Rattle.std.specs.Prelude.{◌≡◌, ◌↔◌, IsTrue, IfOk};
 ghost use Rattle.std.specs.List.Sorted.{IsPermutation, IsSortedBy, IsStableBy};
 ghost use Rattle.std.specs.Ordering.{is_lt};
 ghost use Rattle.cov_steps.specs.Order.{comes_first};
@@ -8,7 +8,14 @@ use cov_model::Range;
 use std::alloc::{AllocError, Global};
 use std::cmp::Ordering;
 
-// The ranges by starts rising, and of one start by ends falling. Those of one start and end keep their order.
+// Whether the ranges stand by starts rising, and of one start by ends falling.
+pub(crate) fn are_in_order(ranges: &[Range]) -> bool
+    ensures { IsTrue result ↔ IsSortedBy comes_first ranges.now }
+{
+    ranges.is_sorted_by(|a, b| !order_of(*b, *a).is_lt())
+}
+
+// The ranges in that order. Those of one start and end keep theirs.
 pub(crate) fn in_order(alloc: Global, ranges: &[Range]) -> Result<Vec<Range>, AllocError>
     ensures permutation { IfOk result (λ ordered. IsPermutation ranges.now ordered.items) }
     ensures sorted { IfOk result (λ ordered. IsSortedBy comes_first ordered.items) }

@@ -9,16 +9,12 @@ use std::alloc::AllocError;
 pub(crate) fn push_run(runs: &mut Vec<Run>, run: Run) -> Result<(), AllocError>
     ensures { OnOk result (runs.new.items ≡ pushed runs.old.items run) }
 {
-    match runs.pop() {
-        None => runs.push(run)?,
-        Some(last) if last.count == run.count => {
-            let start = last.start;
-            runs.push(Run { start, ..run })?
-        }
-        Some(last) => {
-            runs.push(last)?;
-            runs.push(run)?
+    if let Some(last) = runs.last_mut() {
+        if last.count == run.count {
+            last.end = run.end;
+            return Ok(());
         }
     }
+    runs.push(run)?;
     Ok(())
 }

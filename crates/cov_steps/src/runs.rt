@@ -7,8 +7,8 @@ use crate::fault::StepFault;
 use crate::sum::summed;
 use cov_model::{FunctionReport, Range, Steps};
 use std::alloc::{AllocError, Global};
-use std::marker::Model;
-use std::sync::ledger::Ledger;
+use std::marker::{Brand, Model};
+use std::sync::ledger::{Blank, Ledger};
 
 /// A stretch of one count: a `Range` whose start and end bound it, and none within.
 pub type Run = Range;
@@ -120,6 +120,15 @@ impl Runs {
         self.runs[i]
     }
 
+    /// The run at a place, counted from 0, for a caller that counts no steps: the one step is taken of a counter that
+    /// is made for it and dropped.
+    pub fn get_uncounted(&self, i: usize) -> Run
+        requires { i < length self.now.runs }
+        ensures { slice_get self.now.runs i ≡ Some result }
+    {
+        get_with::<Brand>(self, i, Blank::new(1))
+    }
+
     /// The sum of two lists of runs over one root: at each offset the sum of the two counts, as longest runs again.
     ///
     /// `TooBig` comes exactly where some sum passes the greatest 64-bit number, and names the least such offset with the
@@ -145,6 +154,17 @@ impl Runs {
         let runs = summed(alloc, self, other, steps)?;
         Ok(Runs { start, end, runs })
     }
+}
+
+// The run at a place, with a counter of steps that nobody reads.
+fn get_with<L: Ledger>(runs: &Runs, i: usize, blank: Blank) -> Run
+    requires name { blank.name ≡ L.name }
+    requires parts { (blank.parts ≡ L.parts) × (0 < L.parts) }
+    requires place { i < length runs.now.runs }
+    ensures { slice_get runs.now.runs i ≡ Some result }
+{
+    let mut steps: Steps<L> = Steps::new(blank);
+    runs.get(i, &mut steps)
 }
 
 fn are_one(a: &[Run], b: &[Run]) -> bool

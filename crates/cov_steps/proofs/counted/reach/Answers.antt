@@ -1,5 +1,5 @@
 use Rattle.std.proofs.Common.{◌∙◌, sym, ap, subst, arith}
-use Rattle.cov_steps.specs.Order.{open_count, Painted}
+use Rattle.cov_steps.specs.Walking.{open_count, Painted}
 use Rattle.cov_steps.proofs.Open.{open-closed, painted-done, painted-closed}
 use Rattle.cov_steps.proofs.counted.reach.Goals as goal
 

@@ -1,7 +1,7 @@
 use Rattle.std.proofs.Common.{◌∙◌, sym, ap, arith}
 use Rattle.std.specs.Prelude.{slice_index_or, unwrap_or}
 use Rattle.cov_model.specs.Normal.{range}
-use Rattle.cov_steps.specs.Order.{last_at, open_count}
+use Rattle.cov_steps.specs.Walking.{last_at, open_count}
 use Rattle.cov_steps.proofs.Maximal.{maximal_runs-none}
 use Rattle.cov_steps.proofs.Rooted.{within-root, starts-at, starts-next, starts-more, starts-none, counts-so-far, counts-more}
 use Rattle.cov_steps.proofs.counted.runs_in_order.Goals as goal
@@ -12,7 +12,7 @@ loop-r-init c = record {
   to = c.requires.nonempty;
   rest = c.requires.starts;
   runs = c.new-runs.ensures.items ∙ sym (maximal_runs-none c.args.root.start (λ o. unwrap_or (last_at c.args.ranges.now o) 0));
-  counts = λ o low. ap (λ rs. open_count rs o) c.new-open.ensures.items;
+  counts = λ o low. ap (λ rs. open_count rs o) c.new-opened.ensures.items;
 }
 
 pub loop-r-preserved : goal.loop-r-preserved
@@ -34,10 +34,10 @@ loop-r-preserved c =
           (record {
             from = before.from;
             done = before.runs;
-            counts = counts-so-far ranges root i at r.start c.loop-r.open.items c.requires.covered before.from end rest before.counts;
+            counts = counts-so-far ranges root i at r.start c.loop-r.opened.items c.requires.covered before.from end rest before.counts;
           });
       counts = λ o from.
-          counts-more ranges i (range 0 0 0) c.reach.new.open.items c.push.new.self.items o c.loop-r-test.true from c.in_ok-push.ensures.items
+          counts-more ranges i (range 0 0 0) c.reach.new.opened.items c.push.new.self.items o c.loop-r-test.true from c.in_ok-push.ensures.items
           (c.in_ok-reach.ensures.rest o from ∙ before.counts o (omega (arith, low, from)));
     }
 
@@ -51,6 +51,6 @@ returns c =
       from = before.from;
       done = before.runs;
       counts =
-          counts-so-far ranges root c.loop-r.r-index c.loop-r.at root.end c.loop-r.open.items c.requires.covered before.from (omega arith)
+          counts-so-far ranges root c.loop-r.r-index c.loop-r.at root.end c.loop-r.opened.items c.requires.covered before.from (omega arith)
           (starts-none root.end ranges c.loop-r.r-index c.loop-r-test.false) before.counts;
     })
