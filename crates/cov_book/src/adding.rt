@@ -22,10 +22,13 @@ pub fn changed_by<L: Ledger>(
     steps: &mut Steps<L>,
 ) -> Result<BTreeMap<Key, Sums>, Stop>
     requires { AreKept functions.now.entries }
-    ensures sums { IfOk result (λ changed. ArePrepared (with_entries functions.now.entries snapshot.now) functions.now changed) }
-    ensures past { IfErr result (λ stop. IfOnePast stop (with_entries functions.now.entries snapshot.now)) }
+    ensures sums { IfOk result (λ changed. ArePrepared (with_entries functions.now.entries
+        snapshot.now) functions.now changed) }
+    ensures past { IfErr result (λ stop. IfOnePast stop (with_entries functions.now.entries
+        snapshot.now)) }
     ensures nested { AreNested snapshot.now }
-    ensures cost { OnOk result ((bound : Key → ℕ) → ((key : Key) → runs_at functions.now.entries key + own_all key snapshot.now ≤ bound key)
+    ensures cost { OnOk result ((bound : Key → ℕ) → ((key : Key)
+        → runs_at functions.now.entries key + own_all key snapshot.now ≤ bound key)
         → steps.new ≤ steps.old + for_entries bound snapshot.now) }
     ensures later { steps.old ≤ steps.new }
 {
@@ -46,15 +49,21 @@ fn add_script<L: Ledger>(
 ) -> Result<(), Stop>
     requires prepared { CanGoOn functions.now changed.now }
     requires nested { AreReportsNested entry.now.functions }
-    ensures sums { OnOk result ((known : List (Key × Sums)) → ArePrepared known functions.now changed.old
-        → ArePrepared (with_reports known entry.now.url entry.now.functions) functions.now changed.new) }
-    ensures past { IfErr result (λ stop. (known : List (Key × Sums)) → ArePrepared known functions.now changed.old
-        → IfOnePast stop (with_reports known entry.now.url entry.now.functions)) }
-    ensures cost { OnOk result ((known : List (Key × Sums)) (bound : Key → ℕ) → ArePrepared known functions.now changed.old
-        → ((key : Key) → runs_at known key + sum_by (own_runs key entry.now.url) entry.now.functions ≤ bound key)
+    ensures sums { OnOk result ((known : List (Key × Sums))
+        → ArePrepared known functions.now changed.old
+        → ArePrepared (with_reports known entry.now.url entry.now.functions) functions.now
+        changed.new) }
+    ensures past { IfErr result (λ stop. (known : List (Key × Sums))
+        → ArePrepared known functions.now changed.old → IfOnePast stop (with_reports known
+        entry.now.url entry.now.functions)) }
+    ensures cost { OnOk result ((known : List (Key × Sums)) (bound : Key → ℕ)
+        → ArePrepared known functions.now changed.old → ((key : Key)
+        → runs_at known key + sum_by (own_runs key entry.now.url) entry.now.functions ≤ bound key)
         → steps.new ≤ steps.old + for_reports bound entry.now.url entry.now.functions) }
-    ensures grows { OnOk result ((known : List (Key × Sums)) → ArePrepared known functions.now changed.old → (key : Key)
-        → runs_at (with_reports known entry.now.url entry.now.functions) key ≤ runs_at known key + sum_by (own_runs key entry.now.url) entry.now.functions) }
+    ensures grows { OnOk result ((known : List (Key × Sums))
+        → ArePrepared known functions.now changed.old → (key : Key)
+        → runs_at (with_reports known entry.now.url entry.now.functions) key ≤ runs_at known key
+        + sum_by (own_runs key entry.now.url) entry.now.functions) }
     ensures later { steps.old ≤ steps.new }
 {
     for report in entry.functions.as_slice() {
@@ -74,15 +83,20 @@ fn add_report<L: Ledger>(
 ) -> Result<(), Stop>
     requires prepared { CanGoOn functions.now changed.now }
     requires nested { range_fault report.now.ranges ≡ None }
-    ensures sums { OnOk result ((known : List (Key × Sums)) → ArePrepared known functions.now changed.old
-        → ArePrepared (with_report known url.now report.now) functions.now changed.new) }
-    ensures past { IfErr result (λ stop. (known : List (Key × Sums)) → ArePrepared known functions.now changed.old
-        → IfOnePast stop (with_report known url.now report.now)) }
-    ensures cost { OnOk result ((known : List (Key × Sums)) (bound : Key → ℕ) → ArePrepared known functions.now changed.old
-        → ((key : Key) → runs_at known key + own_runs key url.now report.now ≤ bound key)
+    ensures sums { OnOk result ((known : List (Key × Sums))
+        → ArePrepared known functions.now changed.old → ArePrepared (with_report known url.now
+        report.now) functions.now changed.new) }
+    ensures past { IfErr result (λ stop. (known : List (Key × Sums))
+        → ArePrepared known functions.now changed.old → IfOnePast stop (with_report known url.now
+        report.now)) }
+    ensures cost { OnOk result ((known : List (Key × Sums)) (bound : Key → ℕ)
+        → ArePrepared known functions.now changed.old → ((key : Key)
+        → runs_at known key + own_runs key url.now report.now ≤ bound key)
         → steps.new ≤ steps.old + for_report bound url.now report.now) }
-    ensures grows { OnOk result ((known : List (Key × Sums)) → ArePrepared known functions.now changed.old → (key : Key)
-        → runs_at (with_report known url.now report.now) key ≤ runs_at known key + own_runs key url.now report.now) }
+    ensures grows { OnOk result ((known : List (Key × Sums))
+        → ArePrepared known functions.now changed.old → (key : Key)
+        → runs_at (with_report known url.now report.now) key ≤ runs_at known key
+        + own_runs key url.now report.now) }
     ensures later { steps.old ≤ steps.new }
 {
     let Some(key) = named(url, report)? else {
@@ -108,11 +122,15 @@ pub fn sums_with<L: Ledger>(
     requires nested { range_fault report.now.ranges ≡ None }
     requires starts { (report_sums report.now).runs.start ≡ key.now.start }
     requires ends { (report_sums report.now).runs.end ≡ key.now.end }
-    ensures sums { IfOk result (λ sums. sums ≡ summed (sums_now functions.now changed.now key.now) (report_sums report.now)) }
+    ensures sums { IfOk result (λ sums. sums
+        ≡ summed (sums_now functions.now changed.now key.now) (report_sums report.now)) }
     ensures within { IfOk result IsWithin }
-    ensures past { IfErr result (λ stop. IfPast stop (summed (sums_now functions.now changed.now key.now) (report_sums report.now))) }
-    ensures cost { OnOk result (steps.new ≤ steps.old + (runs_held (sums_now functions.now changed.now key.now) + report_runs report.now)) }
-    ensures size { IfOk result (λ sums. length sums.runs.runs ≤ runs_held (sums_now functions.now changed.now key.now) + report_runs report.now) }
+    ensures past { IfErr result (λ stop. IfPast stop (summed (sums_now functions.now changed.now
+        key.now) (report_sums report.now))) }
+    ensures cost { OnOk result (steps.new ≤ steps.old
+        + (runs_held (sums_now functions.now changed.now key.now) + report_runs report.now)) }
+    ensures size { IfOk result (λ sums. length sums.runs.runs
+        ≤ runs_held (sums_now functions.now changed.now key.now) + report_runs report.now) }
     ensures later { steps.old ≤ steps.new }
 {
     let added = sums_of(alloc, report)?;

@@ -10,9 +10,12 @@ use cov_steps::Runs;
 impl PartialEq for Sums {
     ghost eq = { same_sums };
 
-    ghost laws = { partial_equiv_from_equiv (and_equiv (and_equiv (on_equiv (λ s. s.block) bool_eq_equiv) (on_equiv (λ s. s.root) nat_eq_equiv))
-        (on_equiv (λ s. s.runs) (and_equiv (on_equiv (λ r. r.start) nat_eq_equiv) (and_equiv (on_equiv (λ r. r.end) nat_eq_equiv)
-        (on_equiv (λ r. r.runs) (lists_equiv (and_equiv (on_equiv (λ r. r.start) nat_eq_equiv) (and_equiv (on_equiv (λ r. r.end) nat_eq_equiv) (on_equiv (λ r. r.count) nat_eq_equiv))))))))) };
+    ghost laws = { partial_equiv_from_equiv (and_equiv (and_equiv (on_equiv
+        (λ s. s.block) bool_eq_equiv) (on_equiv (λ s. s.root) nat_eq_equiv)) (on_equiv
+        (λ s. s.runs) (and_equiv (on_equiv (λ r. r.start) nat_eq_equiv) (and_equiv (on_equiv
+        (λ r. r.end) nat_eq_equiv) (on_equiv (λ r. r.runs) (lists_equiv (and_equiv (on_equiv
+        (λ r. r.start) nat_eq_equiv) (and_equiv (on_equiv (λ r. r.end) nat_eq_equiv) (on_equiv
+        (λ r. r.count) nat_eq_equiv))))))))) };
 
     fn eq(&self, other: &Sums) -> bool {
         is_root_same(self, other) && are_runs_same(&self.runs, &other.runs)

@@ -14,7 +14,8 @@ pub fn add_reports<'a>(
     snapshot: &'a Snapshot,
     key: &Key,
 ) -> Result<(), AllocError>
-    ensures { OnOk result (map (λ r. r.now) found.new.items ≡ map (λ r. r.now) found.old.items ++ reports_in key.now snapshot.now) }
+    ensures { OnOk result (map (λ r. r.now) found.new.items ≡ map
+        (λ r. r.now) found.old.items ++ reports_in key.now snapshot.now) }
 {
     for entry in snapshot.scripts() {
         add_script_reports(found, entry, key)?;
@@ -27,7 +28,8 @@ fn add_script_reports<'a>(
     entry: &'a Entry,
     key: &Key,
 ) -> Result<(), AllocError>
-    ensures { OnOk result (map (λ r. r.now) found.new.items ≡ map (λ r. r.now) found.old.items ++ filter (is_of key.now entry.now.url) entry.now.functions) }
+    ensures { OnOk result (map (λ r. r.now) found.new.items ≡ map
+        (λ r. r.now) found.old.items ++ filter (is_of key.now entry.now.url) entry.now.functions) }
 {
     for report in entry.functions.as_slice() {
         if is_one(key, &entry.url, report) {

@@ -8,7 +8,8 @@ pub fn any_order()
     ensures { AnyOrder }
 {}
 
-/// What was merged in parts, and then merged, is what is merged at once: several machines may each merge a share.
+/// What was merged in parts, and then merged, is what is merged at once: several machines may each
+/// merge a share.
 pub fn in_parts()
     ensures { MergesInParts }
 {}

@@ -13,8 +13,8 @@ use std::alloc::{AllocError, Global};
 use std::collections::BTreeMap;
 use std::sync::ledger::Ledger;
 
-/// The least key of which a sum with the snapshot passes the limit. The sums are made as by an addition, but that of each key
-/// that isn't before the least one found so far.
+/// The least key of which a sum with the snapshot passes the limit. The sums are made as by an
+/// addition, but that of each key that isn't before the least one found so far.
 pub fn least_past<L: Ledger>(
     alloc: Global,
     functions: &BTreeMap<Key, Sums>,
@@ -45,8 +45,10 @@ fn least_of_script<L: Ledger>(
 ) -> Result<Option<Key>, AllocError>
     requires so_far { CanGoOnLeast functions.now changed.now before }
     requires nested { AreReportsNested entry.now.functions }
-    ensures least { IfOk result (λ now. (all : List (Key × Sums)) → IsLeastSoFar all functions.now changed.old before
-        → IsLeastSoFar (with_reports all entry.now.url entry.now.functions) functions.now changed.new now) }
+    ensures least { IfOk result (λ now. (all : List (Key × Sums))
+        → IsLeastSoFar all functions.now changed.old before
+        → IsLeastSoFar (with_reports all entry.now.url entry.now.functions) functions.now
+        changed.new now) }
     ensures later { steps.old ≤ steps.new }
 {
     let mut least = before;
@@ -68,7 +70,8 @@ fn least_with<L: Ledger>(
 ) -> Result<Option<Key>, AllocError>
     requires so_far { CanGoOnLeast functions.now changed.now least }
     requires nested { range_fault report.now.ranges ≡ None }
-    ensures least { IfOk result (λ now. (all : List (Key × Sums)) → IsLeastSoFar all functions.now changed.old least
+    ensures least { IfOk result (λ now. (all : List (Key × Sums))
+        → IsLeastSoFar all functions.now changed.old least
         → IsLeastSoFar (with_report all url.now report.now) functions.now changed.new now) }
     ensures later { steps.old ≤ steps.new }
 {

@@ -10,8 +10,9 @@ use cov_model::Key;
 use cov_steps::Runs;
 use std::collections::BTreeMap;
 
-/// The runs of the function of this url, root and name. It takes no memory, and looks at the functions one by one: a look-up in the
-/// map wants a whole `Key`, whose texts would have to be copied.
+/// The runs of the function of this url, root and name. It takes no memory, and looks at the
+/// functions one by one: a look-up in the map wants a whole `Key`, whose texts would have to be
+/// copied.
 pub fn runs_named<'a>(
     functions: &'a BTreeMap<Key, Sums>,
     url: &str,
@@ -19,7 +20,8 @@ pub fn runs_named<'a>(
     end: u32,
     name: &str,
 ) -> Option<&'a Runs>
-    ensures { option_copied result ≡ option_map (λ sums. sums.runs) (lookup (same_key (named url.now start end name.now)) functions.now.entries) }
+    ensures { option_copied result ≡ option_map (λ sums. sums.runs) (lookup (same_key (named url.now
+        start end name.now)) functions.now.entries) }
 {
     for (key, sums) in functions {
         if is_key(key, url, start, end, name) {

@@ -14,8 +14,8 @@ use cov_normal::normal;
 use std::alloc::{AllocError, Global};
 use std::collections::{BTreeMap, BTreeSet};
 
-/// The scripts of these urls, each function with its sums as a normal list. Urls and functions are in one order, so both are gone
-/// through once, side by side.
+/// The scripts of these urls, each function with its sums as a normal list. Urls and functions are
+/// in one order, so both are gone through once, side by side.
 pub fn scripts_of(
     alloc: Global,
     urls: &BTreeSet<Text>,
@@ -24,7 +24,8 @@ pub fn scripts_of(
     requires aligned { AreAligned functions.now.entries }
     requires nested { AreNested (map (told_entry functions.now.entries) urls.now.keys) }
     requires known { AreOfUrls urls.now.keys functions.now.entries }
-    ensures { IfOk result (λ snapshot. snapshot ≡ map (told_entry functions.now.entries) urls.now.keys) }
+    ensures { IfOk result (λ snapshot. snapshot
+        ≡ map (told_entry functions.now.entries) urls.now.keys) }
 {
     let found = listed(alloc, functions)?;
     let mut rest = found.as_slice();

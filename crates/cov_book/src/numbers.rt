@@ -9,7 +9,8 @@ use std::collections::{BTreeMap, BTreeSet};
 use std::marker::Brand;
 use std::sync::ledger::{Blank, Ledger};
 
-/// How many things a list of snapshots comes to. A number past the greatest one of its type is told as that.
+/// How many things a list of snapshots comes to. A number past the greatest one of its type is told
+/// as that.
 #[derive(Clone, Copy, Debug, PartialEq, Eq)]
 pub struct Numbers {
     /// The urls of scripts, each counted once.

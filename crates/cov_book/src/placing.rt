@@ -28,7 +28,8 @@ pub fn put(
     requires urls { sets.IsOrdered text_cmp urls.now }
     requires sums { maps.IsOrdered file_order functions.now }
     ensures urls { OnOk result (urls.new.keys ≡ with_urls urls.old.keys snapshot.now) }
-    ensures sums { OnOk result ((entries : List (Key × Sums)) → ArePrepared entries functions.old changed → functions.new.entries ≡ entries) }
+    ensures sums { OnOk result ((entries : List (Key × Sums))
+        → ArePrepared entries functions.old changed → functions.new.entries ≡ entries) }
     ensures urls_stay { OnErr result (urls.new.keys ≡ urls.old.keys) }
     ensures sums_stay { OnErr result (functions.new.entries ≡ functions.old.entries) }
 {
@@ -47,7 +48,8 @@ fn fresh_urls(
     urls: &BTreeSet<Text>,
     snapshot: &Snapshot,
 ) -> Result<Vec<Text>, AllocError>
-    ensures { IfOk result (λ fresh. fresh.items ≡ filter (λ url. not (contains text_cmp urls.now url)) (urls_of snapshot.now)) }
+    ensures { IfOk result (λ fresh. fresh.items ≡ filter
+        (λ url. not (contains text_cmp urls.now url)) (urls_of snapshot.now)) }
 {
     let mut fresh = Vec::new(alloc);
     for entry in snapshot.scripts() {
@@ -61,7 +63,8 @@ fn fresh_urls(
 /// Puts fresh urls to those known: all of them or none.
 fn put_urls(urls: &mut BTreeSet<Text>, fresh: &[Text]) -> Result<(), AllocError>
     requires ordered { sets.IsOrdered text_cmp urls.now }
-    requires fresh { (url : List ℕ) → is_among text_cmp fresh.now url ≡ true → contains text_cmp urls.now url ≡ false }
+    requires fresh { (url : List ℕ) → is_among text_cmp fresh.now url ≡ true
+        → contains text_cmp urls.now url ≡ false }
     ensures ordered { sets.IsOrdered text_cmp urls.new }
     ensures ok { OnOk result (urls.new.keys ≡ inserted text_cmp urls.old.keys fresh.now) }
     ensures err { OnErr result (urls.new.keys ≡ urls.old.keys) }
@@ -78,7 +81,8 @@ fn insert_urls(urls: &mut BTreeSet<Text>, fresh: &[Text]) -> Result<(), AllocErr
     requires { sets.IsOrdered text_cmp urls.now }
     ensures ordered { sets.IsOrdered text_cmp urls.new }
     ensures ok { OnOk result (urls.new.keys ≡ inserted text_cmp urls.old.keys fresh.now) }
-    ensures others { (url : List ℕ) → is_among text_cmp fresh.now url ≡ false → contains text_cmp urls.new url ≡ contains text_cmp urls.old url }
+    ensures others { (url : List ℕ) → is_among text_cmp fresh.now url ≡ false
+        → contains text_cmp urls.new url ≡ contains text_cmp urls.old url }
 {
     for url in fresh {
         urls.insert(url.clone()?)?;
@@ -90,7 +94,8 @@ fn insert_urls(urls: &mut BTreeSet<Text>, fresh: &[Text]) -> Result<(), AllocErr
 fn remove_urls(urls: &mut BTreeSet<Text>, fresh: &[Text])
     requires { sets.IsOrdered text_cmp urls.now }
     ensures ordered { sets.IsOrdered text_cmp urls.new }
-    ensures gone { (url : List ℕ) → contains text_cmp urls.new url ≡ cond (is_among text_cmp fresh.now url) false (contains text_cmp urls.old url) }
+    ensures gone { (url : List ℕ) → contains text_cmp urls.new url
+        ≡ cond (is_among text_cmp fresh.now url) false (contains text_cmp urls.old url) }
 {
     for url in fresh {
         urls.remove(url);
@@ -104,7 +109,8 @@ fn put_sums(
     mut changed: BTreeMap<Key, Sums>,
 ) -> Result<(), AllocError>
     requires { maps.IsOrdered file_order functions.now }
-    ensures ok { OnOk result ((entries : List (Key × Sums)) → ArePrepared entries functions.old changed → functions.new.entries ≡ entries) }
+    ensures ok { OnOk result ((entries : List (Key × Sums))
+        → ArePrepared entries functions.old changed → functions.new.entries ≡ entries) }
     ensures err { OnErr result (functions.new.entries ≡ functions.old.entries) }
 {
     let fresh = fresh_keys(alloc, functions, &changed)?;
@@ -122,7 +128,8 @@ fn fresh_keys(
     functions: &BTreeMap<Key, Sums>,
     changed: &BTreeMap<Key, Sums>,
 ) -> Result<Vec<Key>, AllocError>
-    ensures { IfOk result (λ fresh. fresh.items ≡ filter (λ key. not (is_some (get file_order functions.now key))) (keys_of changed.now.entries)) }
+    ensures { IfOk result (λ fresh. fresh.items ≡ filter
+        (λ key. not (is_some (get file_order functions.now key))) (keys_of changed.now.entries)) }
 {
     let mut fresh = Vec::new(alloc);
     for key in changed.keys() {
@@ -141,9 +148,12 @@ fn move_sums(
 ) -> Result<(), AllocError>
     requires { maps.IsOrdered file_order functions.now }
     ensures ordered { maps.IsOrdered file_order functions.new }
-    ensures others { (key : Key) → is_among file_order fresh.now key ≡ false → get file_order functions.new key ≡ get file_order functions.old key }
-    ensures left { OnOk result ((key : Key) → get file_order changed.new key ≡ cond (is_among file_order fresh.now key) None (get file_order changed.old key)) }
-    ensures now { OnOk result ((key : Key) → sums_now functions.new changed.new key ≡ sums_now functions.old changed.old key) }
+    ensures others { (key : Key) → is_among file_order fresh.now key ≡ false
+        → get file_order functions.new key ≡ get file_order functions.old key }
+    ensures left { OnOk result ((key : Key) → get file_order changed.new key
+        ≡ cond (is_among file_order fresh.now key) None (get file_order changed.old key)) }
+    ensures now { OnOk result ((key : Key)
+        → sums_now functions.new changed.new key ≡ sums_now functions.old changed.old key) }
 {
     for key in fresh {
         move_one(functions, changed, key)?;
@@ -159,9 +169,12 @@ fn move_one(
 ) -> Result<(), AllocError>
     requires { maps.IsOrdered file_order functions.now }
     ensures ordered { maps.IsOrdered file_order functions.new }
-    ensures others { (q : Key) → is_at (file_order key.now) q ≡ false → get file_order functions.new q ≡ get file_order functions.old q }
-    ensures left { OnOk result ((q : Key) → get file_order changed.new q ≡ cond (is_at (file_order key.now) q) None (get file_order changed.old q)) }
-    ensures now { OnOk result ((q : Key) → sums_now functions.new changed.new q ≡ sums_now functions.old changed.old q) }
+    ensures others { (q : Key) → is_at (file_order key.now) q ≡ false
+        → get file_order functions.new q ≡ get file_order functions.old q }
+    ensures left { OnOk result ((q : Key) → get file_order changed.new q
+        ≡ cond (is_at (file_order key.now) q) None (get file_order changed.old q)) }
+    ensures now { OnOk result ((q : Key)
+        → sums_now functions.new changed.new q ≡ sums_now functions.old changed.old q) }
 {
     if let Some((key, sums)) = changed.remove_entry(key) {
         functions.insert(key, sums)?;
@@ -172,7 +185,8 @@ fn move_one(
 /// Puts sums in the place of others. It takes no memory.
 fn replace_sums(functions: &mut BTreeMap<Key, Sums>, changed: BTreeMap<Key, Sums>)
     requires ordered { maps.IsOrdered file_order functions.now }
-    requires there { (key : Key) → IsSome (get file_order changed key) → IsSome (get file_order functions.now key) }
+    requires there { (key : Key) → IsSome (get file_order changed key)
+        → IsSome (get file_order functions.now key) }
     ensures ordered { maps.IsOrdered file_order functions.new }
     ensures now { (key : Key) → get file_order functions.new key ≡ sums_now functions.old changed key }
 {
@@ -186,7 +200,8 @@ fn replace_sums(functions: &mut BTreeMap<Key, Sums>, changed: BTreeMap<Key, Sums
 fn replace_one(functions: &mut BTreeMap<Key, Sums>, key: Key, sums: Sums)
     requires { IsSome (get file_order functions.now key) }
     ensures ordered { maps.IsOrdered file_order functions.new }
-    ensures put { (q : Key) → get file_order functions.new q ≡ cond (is_at (file_order key) q) (Some sums) (get file_order functions.old q) }
+    ensures put { (q : Key) → get file_order functions.new q
+        ≡ cond (is_at (file_order key) q) (Some sums) (get file_order functions.old q) }
 {
     let _ = functions.insert(key, sums);
 }
@@ -195,7 +210,8 @@ fn replace_one(functions: &mut BTreeMap<Key, Sums>, key: Key, sums: Sums)
 fn remove_sums(functions: &mut BTreeMap<Key, Sums>, fresh: &[Key])
     requires { maps.IsOrdered file_order functions.now }
     ensures ordered { maps.IsOrdered file_order functions.new }
-    ensures gone { (key : Key) → get file_order functions.new key ≡ cond (is_among file_order fresh.now key) None (get file_order functions.old key) }
+    ensures gone { (key : Key) → get file_order functions.new key
+        ≡ cond (is_among file_order fresh.now key) None (get file_order functions.old key) }
 {
     for key in fresh {
         functions.remove(key);

@@ -16,8 +16,8 @@ use std::sync::ledger::Ledger;
 /// The greatest count and the greatest sum.
 pub const LIMIT: u128 = 18446744073709551615;
 
-/// The offsets from the end of the stretch before it up to its own end, in UTF-16 units, with the sum at each of them as far as
-/// 128 bits go.
+/// The offsets from the end of the stretch before it up to its own end, in UTF-16 units, with the
+/// sum at each of them as far as 128 bits go.
 #[derive(Clone, Copy)]
 pub struct Stretch {
     pub end: u32,
@@ -34,7 +34,8 @@ pub fn sums_of_reports<L: Ledger>(
 ) -> Result<Vec<Stretch>, AllocError>
     requires nested { AreReportsNested (map (λ r. r.now) reports.now) }
     requires rooted { AreRooted start end (map (λ r. r.now) reports.now) }
-    ensures sums { IfOk result (λ sums. TellsSums start end (λ o. sum_by (weight (Offset o)) (map (λ r. r.now) reports.now)) sums.items) }
+    ensures sums { IfOk result (λ sums. TellsSums start end (λ o. sum_by (weight (Offset o)) (map
+        (λ r. r.now) reports.now)) sums.items) }
     ensures later { steps.old ≤ steps.new }
 {
     let mut sums = nothing_between(alloc, start, end)?;
@@ -65,7 +66,8 @@ pub fn with_runs<L: Ledger>(
 ) -> Result<Vec<Stretch>, AllocError>
     requires { IsCover runs.now.start runs.now.end sums.now }
     ensures covers { IfOk result (λ made. IsCover runs.now.start runs.now.end made.items) }
-    ensures sums { IfOk result (λ made. (o : ℕ) → runs.now.start ≤ o → o < runs.now.end → sum_in made.items o ≡ capped (sum_in sums.now o + count_in runs.now.runs o)) }
+    ensures sums { IfOk result (λ made. (o : ℕ) → runs.now.start ≤ o → o < runs.now.end
+        → sum_in made.items o ≡ capped (sum_in sums.now o + count_in runs.now.runs o)) }
     ensures later { steps.old ≤ steps.new }
 {
     let end = runs.end();

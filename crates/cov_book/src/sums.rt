@@ -10,8 +10,8 @@ use cov_steps::{Runs, StepFault};
 use std::alloc::{AllocError, Global};
 use std::sync::ledger::Ledger;
 
-/// What the reports of a function come to: whether one has blocks, the sum of the root counts, and the runs of the sums of the
-/// innermost counts.
+/// What the reports of a function come to: whether one has blocks, the sum of the root counts, and
+/// the runs of the sums of the innermost counts.
 #[derive(Clone, Debug, Drop)]
 pub struct Sums {
     pub block: bool,
@@ -72,8 +72,10 @@ pub fn sum_with<L: Ledger>(
     ensures sums { IfOk result (λ sums. sums ≡ sum_two held.now added.now) }
     ensures within { IfOk result IsWithin }
     ensures past { IfErr result (λ stop. IfPast stop (sum_two held.now added.now)) }
-    ensures cost { OnOk result (steps.new ≤ steps.old + (length held.now.runs.runs + length added.now.runs.runs)) }
-    ensures size { IfOk result (λ sums. length sums.runs.runs ≤ length held.now.runs.runs + length added.now.runs.runs) }
+    ensures cost { OnOk result (steps.new ≤ steps.old + (length held.now.runs.runs
+        + length added.now.runs.runs)) }
+    ensures size { IfOk result (λ sums. length sums.runs.runs ≤ length held.now.runs.runs
+        + length added.now.runs.runs) }
     ensures later { steps.old ≤ steps.new }
 {
     let Some(root) = held.root.checked_add(added.root) else {

@@ -1,4 +1,5 @@
-//! What snapshots come to, on examples. How many runs an addition may look at is a law: `laws::runs_looked_at`.
+//! What snapshots come to, on examples. How many runs an addition may look at is a law:
+//! `laws::runs_looked_at`.
 ghost use Rattle.std.specs.Prelude.{◌≡◌, ◌<◌, None, IfOk};
 ghost use Rattle.cov_model.specs.Nesting.{range_fault};
 
