@@ -1,0 +1,16 @@
+//! The texts of a folder, read by workers and added to one book under one lock.
+#![tactic(auto)]
+
+mod batch;
+mod naming;
+mod outcome;
+mod reading;
+mod shelf;
+
+pub use batch::collect_batch;
+pub use naming::Naming;
+pub use outcome::Batch;
+pub use shelf::Shelf;
+
+#[cfg(test)]
+mod tests;
