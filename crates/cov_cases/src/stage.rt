@@ -1,6 +1,6 @@
 //! A case as it is played: its files, the calls that are to fail, and what came so far.
 use cov_commands::run_tool;
-use cov_io::{MemFile, MemSink, MemStore, SureStore};
+use cov_io::{Failing, MemFile, MemSink, MemStore, SureStore};
 use cov_text::{Items, Text};
 use std::alloc::{AllocError, Global};
 
@@ -35,17 +35,15 @@ struct Stage {
 pub(crate) fn played(alloc: Global, case: &str) -> Result<String, AllocError> {
     let mut stage = Stage {
         alloc,
-        store: MemStore {
-            inner: SureStore {
+        store: MemStore::new(
+            SureStore {
                 folders: Items::new(alloc),
                 files: Items::new(alloc),
             },
-            calls: 0,
-            failing: Items::new(alloc),
-            faults: 0,
-        },
-        out: empty_sink(alloc),
-        err: empty_sink(alloc),
+            Items::new(alloc),
+        ),
+        out: MemSink::new(alloc, Items::new(alloc)),
+        err: MemSink::new(alloc, Items::new(alloc)),
         place: Place::Between,
         path: String::new(alloc),
         text: String::new(alloc),
@@ -115,9 +113,9 @@ impl Stage {
             && let Ok(number) = number.parse::<u64>()
         {
             match object {
-                "store" => self.store.failing.push(number)?,
-                "out" => self.out.failing.push(number)?,
-                "err" => self.err.failing.push(number)?,
+                "store" => self.store.failing.numbers.push(number)?,
+                "out" => self.out.failing.numbers.push(number)?,
+                "err" => self.err.failing.numbers.push(number)?,
                 _ => {}
             }
         }
@@ -136,27 +134,17 @@ impl Stage {
         );
         put_part(&mut self.given, "-- out", &self.out)?;
         put_part(&mut self.given, "-- err", &self.err)?;
-        let (code, calls) = (ended.code(), self.store.calls);
+        let (code, calls) = (ended.code(), self.store.failing.calls);
         let line = format!(in self.alloc; "= {code} {ended:?}, {calls} calls")?;
         self.put(line.as_str())?;
-        self.store.calls = 0;
-        self.store.failing = Items::new(self.alloc);
-        self.out = empty_sink(self.alloc);
-        self.err = empty_sink(self.alloc);
+        self.store.failing = Failing::new(Items::new(self.alloc));
+        self.out = MemSink::new(self.alloc, Items::new(self.alloc));
+        self.err = MemSink::new(self.alloc, Items::new(self.alloc));
         Ok(())
     }
 
     fn put(&mut self, line: &str) -> Result<(), AllocError> {
         put_line(&mut self.given, line)
-    }
-}
-
-fn empty_sink(alloc: Global) -> MemSink {
-    MemSink {
-        bytes: Items::new(alloc),
-        calls: 0,
-        failing: Items::new(alloc),
-        faults: 0,
     }
 }
 
@@ -203,11 +191,11 @@ fn put_line(given: &mut String, line: &str) -> Result<(), AllocError> {
 
 // Puts what a sink holds under its name, where it holds something.
 fn put_part(given: &mut String, name: &str, sink: &MemSink) -> Result<(), AllocError> {
-    if !sink.bytes.is_empty() {
+    if !sink.inner.bytes.is_empty() {
         put_line(given, name)?;
         put_line(
             given,
-            str::from_utf8(sink.bytes.as_slice()).unwrap_or("(not UTF-8)"),
+            str::from_utf8(sink.inner.bytes.as_slice()).unwrap_or("(not UTF-8)"),
         )?;
     }
     Ok(())

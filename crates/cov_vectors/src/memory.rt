@@ -38,21 +38,8 @@ fn store_of(alloc: Global, given: &[(&str, &str)]) -> Result<MemStore, AllocErro
             bytes: Items::from_slice(alloc, text.as_bytes())?,
         })?;
     }
-    Ok(MemStore {
-        inner: SureStore { folders, files },
-        calls: 0,
-        failing: Items::new(alloc),
-        faults: 0,
-    })
-}
-
-fn empty_sink(alloc: Global) -> MemSink {
-    MemSink {
-        bytes: Items::new(alloc),
-        calls: 0,
-        failing: Items::new(alloc),
-        faults: 0,
-    }
+    let inner = SureStore { folders, files };
+    Ok(MemStore::new(inner, Items::new(alloc)))
 }
 
 // Whether the command has ended as is due. Else memory was wanted, and no more than a part of what is due was written.
@@ -62,9 +49,10 @@ fn ends<R: Abort + AllocGlobal>(rt: &R, store: &mut MemStore, run: &Run<'_>) -> 
     for word in run.words {
         words.push(String::from_str(alloc, word)?)?;
     }
-    let (mut out, mut err) = (empty_sink(alloc), empty_sink(alloc));
+    let mut out = MemSink::new(alloc, Items::new(alloc));
+    let mut err = MemSink::new(alloc, Items::new(alloc));
     let answer = run_tool(alloc, words.as_slice(), store, &mut out, &mut err);
-    let written = out.bytes.as_slice();
+    let written = out.inner.bytes.as_slice();
     if answer == Ended::NoMemory {
         assert!(rt;
             run.out.as_bytes().starts_with(written),
@@ -75,7 +63,7 @@ fn ends<R: Abort + AllocGlobal>(rt: &R, store: &mut MemStore, run: &Run<'_>) -> 
     assert_eq!(rt; answer, run.ended);
     assert!(rt; written == run.out.as_bytes(), "the output");
     assert!(rt;
-        err.bytes.as_slice() == run.err.as_bytes(),
+        err.inner.bytes.as_slice() == run.err.as_bytes(),
         "the error sink"
     );
     Ok(true)
