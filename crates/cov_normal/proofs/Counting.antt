@@ -11,7 +11,7 @@ use Rattle.cov_model.specs.Nesting.{has_offset, crosses, each_pair, is_within, i
 use Rattle.cov_model.specs.Normal.{range, each_next, maximal_runs}
 use Rattle.cov_model.specs.Nested.{nest, nested}
 use Rattle.cov_ranges.proofs.Nested.{faultless_where_nested}
-use Rattle.cov_steps.specs.Order.{precedes, last_count}
+use Rattle.cov_steps.specs.Walking.{precedes, last_count}
 use Rattle.cov_steps.proofs.Checks.{and-both, both-and, all-more}
 use Rattle.cov_steps.proofs.Maximal.{count_in-maximal}
 use Rattle.cov_steps.proofs.Rooted.{first-ordered}
