@@ -1,15 +1,16 @@
 -- A call from its parts: what is owed, what is put out, and the last line.
 use Rattle.std.proofs.Common.{◌≡◌, ◌≤◌, ℕ, List, [], ◌++◌, take, refl, sym, ap, ◌∙◌, subst, arith, inl, inr, append_assoc}
-use Rattle.std.specs.Prelude.{◌⊎◌, Option, None, Some, Ok, Err}
+use Rattle.std.specs.Prelude.{◌⊎◌, Option, None, Some, Ok, Err, length, max}
 use Rattle.std.specs.Io.KnownBytes.{Appends}
 use Rattle.std.proofs.lemmas.List.{append-nil}
 use Rattle.cov_io.specs.Causes.{Rose}
+use Rattle.cov_io.specs.Grows.{longest_after}
 use Rattle.cov_commands.specs.declared.due.Due.{Due}
 use Rattle.cov_commands.specs.declared.ended.Ended.{Ended}
 use Rattle.cov_commands.specs.declared.ended.Ended.TheVariants.{Usage, ReadFault, WriteFault, NoMemory}
 use Rattle.cov_commands.specs.Ends.{IsFinished, IsFinishedOrShort, last_line}
 use Rattle.cov_commands.specs.Owed.{Owed, Gives, early, owed_of, Duty}
-use Rattle.cov_commands.specs.Sinks.{SinkAt, Gains, EndsAs, Puts, GainsLine, LastLine}
+use Rattle.cov_commands.specs.Sinks.{SinkAt, Gains, EndsAs, Puts, GainsLine, HasHanded, LastLine}
 use Rattle.cov_commands.specs.Call.{Moment, moment, EndsEarly, Runs, Asks, Ran, Call}
 use Rattle.cov_commands.proofs.Parts.{part-same}
 use Rattle.cov_commands.proofs.Went.{finished-line}
@@ -34,6 +35,14 @@ rose-then a b c le rose = omega (arith, rose)
 
 ≤-then : (a b c : ℕ) → a ≤ b → b ≤ c → a ≤ c
 ≤-then a b c p q = omega arith
+
+-- a sink that was handed a piece tells a length that is no less
+pub handed : (piece : List ℕ) (before now : Option ℕ) → now ≡ longest_after piece before → HasHanded now piece
+handed piece None now e n told = absurd (let both : None ≡ Some n = sym e ∙ told in cc)
+handed piece (Some m) now e n told =
+    let both : Some (max m (length piece)) ≡ Some n = sym e ∙ told in
+    let same : max m (length piece) ≡ n = cc in
+    omega (arith, same)
 
 -- a line behind what stands already
 pub line-behind : {S : Type 0} (a b c : SinkAt S) (front line : List ℕ) → a.faults ≤ b.faults → Gains a b front → GainsLine b c [] line → GainsLine a c front line
@@ -113,6 +122,7 @@ module _ {W O E : Type 0} (duty : Duty W) (before mid : Moment W O E) (err : Sin
             (done.0, done.1, subst (λ (e : SinkAt E). Gains before.err e owed.err) (sym (finished-err last finished)) done.2);
         out_prefix = puts.out_prefix;
         err_prefix = (puts.err_prefix.0, line-behind before.err mid.err err (take puts.err_prefix.0 owed.err) (last_line ended) puts.later.1 puts.err_prefix.1 last.gains);
+        handed = last.handed;
         order = elim puts.order [
           | inl whole ↦ inl whole
           | inr same ↦ inr (subst (λ (e : SinkAt E). GainsLine e err [] (last_line ended)) same last.gains)
@@ -150,7 +160,8 @@ called {C} {W} {O} {E} duty asked before mid err ended law asks last = record {
         world = ap (λ (m : Moment W O E). m.world) same.0;
         out = ap (λ (m : Moment W O E). m.out) same.0;
         err = subst (λ (m : Moment W O E). GainsLine m.err err [] (last_line ended)) same.0 last.gains;
-        later = subst (λ (m : Moment W O E). m.err.faults ≤ err.faults) same.0 last.later;
+        handed = last.handed;
+    later = subst (λ (m : Moment W O E). m.err.faults ≤ err.faults) same.0 last.later;
       };
   ran = λ command is. ran (duty command) before mid err ended (law command) (asks.some command is) last;
 }

@@ -27,7 +27,7 @@ not_risen : Rose 0 0 → ⊥
 not_risen rose = omega (arith, rose)
 
 abbrev pub sure_sink : SureSink → SinkAt SureSink
-sure_sink sink = sink_at sink (Some sink.bytes) 0
+sure_sink sink = sink_at sink (Some sink.bytes) (Some sink.longest) 0
 
 pub gives_due : (words : List (List ℕ)) (store store_after : SureStore) (out_before out_after err_before err_after : SureSink) (ended : Ended)
     → Call tool_duty (command_of words) (moment (sure_store store) (sure_sink out_before) (sure_sink err_before))

@@ -5,7 +5,7 @@ use Rattle.cov_commands.specs.declared.ended.Ended.{Ended}
 use Rattle.cov_commands.specs.declared.ended.Ended.TheVariants.{Usage, WriteFault, ReadFault, NoMemory}
 use Rattle.cov_commands.specs.Ends.{IsFinished, IsFinishedOrShort, last_line}
 use Rattle.cov_commands.specs.Owed.{Owed, Duty}
-use Rattle.cov_commands.specs.Sinks.{SinkAt, Gains, GainsPart, GainsLine, Fails, EndsAs, Puts}
+use Rattle.cov_commands.specs.Sinks.{SinkAt, Gains, GainsPart, GainsLine, HasHanded, Fails, EndsAs, Puts}
 
 -- What is outside at a moment: what a command reads, and the two sinks.
 pub record Moment (W O E : Type 0) : Type 0 where
@@ -34,6 +34,8 @@ pub record Ran {W O E : Type 0} (duty : Duty W) (before now : Moment W O E) (end
   pub out_prefix : GainsPart before.out now.out owed.out
   -- Whatever the answer, the error sink has got a prefix of the lines that were owed, and then the last line of the answer.
   pub err_prefix : (m : ℕ) × GainsLine before.err now.err (take m owed.err) (last_line ended)
+  -- The error sink was handed a piece that is no shorter than the last line: the line itself, where no earlier one was longer.
+  pub handed : HasHanded now.err.longest (last_line ended)
   -- The output is whole before the error sink gets anything but the last line.
   pub order : Gains before.out now.out owed.out ⊎ GainsLine before.err now.err [] (last_line ended)
   -- `WriteFault` comes only where the output failed, or where the error sink failed and the output is whole.
@@ -66,6 +68,7 @@ pub record Unasked {W O E : Type 0} (before now : Moment W O E) (ended : Ended) 
   pub world : now.world ≡ before.world
   pub out : now.out ≡ before.out
   pub err : GainsLine before.err now.err [] (last_line ended)
+  pub handed : HasHanded now.err.longest (last_line ended)
   pub later : before.err.faults ≤ now.err.faults
 
 -- The whole of a call: the command that the words ask for was run, or they ask for none.

@@ -1,21 +1,23 @@
 -- What a sink has got, and why it got no more.
-use Rattle.std.specs.Prelude.{◌≡◌, ◌≤◌, ◌⊎◌, ◌++◌, ℕ, List, [], take, Option}
+use Rattle.std.specs.Prelude.{◌≡◌, ◌≤◌, ◌⊎◌, ◌++◌, ℕ, List, [], length, take, Option}
 use Rattle.std.specs.Io.KnownBytes.{Appends}
 use Rattle.cov_io.specs.Causes.{Rose}
 use Rattle.cov_io.specs.Grows.{AppendsPart}
+use Rattle.cov_io.specs.Told.{WhereTold}
 use Rattle.cov_commands.specs.declared.ended.Ended.{Ended}
 use Rattle.cov_commands.specs.declared.ended.Ended.TheVariants.{WriteFault, NoMemory}
 use Rattle.cov_commands.specs.Ends.{IsFinished}
 use Rattle.cov_commands.specs.Owed.{Owed}
 
--- a sink at a moment: the sink itself, the bytes that it tells, and its count of faults
+-- a sink at a moment: the sink itself, the bytes and the longest length of a piece that it tells, and its count of faults
 pub record SinkAt (S : Type 0) : Type 0 where
   pub sink : S
   pub held : Option (List ℕ)
+  pub longest : Option ℕ
   pub faults : ℕ
 
-abbrev pub sink_at : {S : Type 0} → S → Option (List ℕ) → ℕ → SinkAt S
-sink_at sink held faults = record { sink = sink; held = held; faults = faults }
+abbrev pub sink_at : {S : Type 0} → S → Option (List ℕ) → Option ℕ → ℕ → SinkAt S
+sink_at sink held longest faults = record { sink = sink; held = held; longest = longest; faults = faults }
 
 -- it has got this text more, where it tells its bytes
 abbrev pub Gains : {S : Type 0} → SinkAt S → SinkAt S → List ℕ → Type 0
@@ -35,6 +37,10 @@ GainsLine before now front line =
     Gains before now (front ++ line)
     ⊎ (Gains before now front
     ⊎ (Fails before now × ((n : ℕ) × Gains before now (front ++ take n line))))
+
+-- A sink of this longest length was handed no less than this text at once, where it tells that.
+abbrev pub HasHanded : Option ℕ → List ℕ → Type 0
+HasHanded longest text = WhereTold longest (λ n. length text ≤ n)
 
 -- how a call ends that owed this: as it is owed, or by a sink
 abbrev pub EndsAs : Owed → Ended → Type 0
@@ -60,5 +66,6 @@ pub record Puts {O E : Type 0} (owed : Owed) (out_before out_now : SinkAt O)
 -- The last line alone is put out, or the sink is not called where there is none.
 pub record LastLine {S : Type 0} (before now : SinkAt S) (line : List ℕ) : Type 0 where
   pub gains : GainsLine before now [] line
+  pub handed : HasHanded now.longest line
   pub none : line ≡ [] → now ≡ before
   pub later : before.faults ≤ now.faults

@@ -2,7 +2,7 @@
 ghost use Rattle.std.specs.Prelude.{◌≡◌, ◌≤◌, [], IfErr, OnOk};
 ghost use Rattle.std.specs.Io.KnownBytes.{Appends};
 ghost use Rattle.cov_io.specs.Causes.{Rose};
-ghost use Rattle.cov_io.specs.Grows.{AppendsPart};
+ghost use Rattle.cov_io.specs.Grows.{AppendsPart, longest_after};
 ghost use Rattle.cov_commands.specs.Owed.{owed_of};
 ghost use Rattle.cov_commands.specs.Sinks.{GainsLine, Puts, sink_at};
 ghost use Rattle.cov_commands.specs.Ends.{HasWriteCause, IsFinished};
@@ -16,8 +16,9 @@ pub fn put<O: Sink>(out: &mut O, bytes: &[u8]) -> Result<(), Ended>
     ensures ok { OnOk result (Appends (O.held out.old) (O.held out.new) bytes.now) }
     ensures part { AppendsPart (O.held out.old) (O.held out.new) bytes.now }
     ensures line { GainsLine
-        (sink_at out.old (O.held out.old) (O.faults out.old)) (sink_at out.new (O.held out.new) (O.faults out.new))
+        (sink_at out.old (O.held out.old) (O.longest out.old) (O.faults out.old)) (sink_at out.new (O.held out.new) (O.longest out.new) (O.faults out.new))
         [] bytes.now }
+    ensures longest { O.longest out.new ≡ longest_after bytes.now (O.longest out.old) }
     ensures cause { IfErr result (HasWriteCause (O.faults out.old) (O.faults out.new)) }
     ensures later { O.faults out.old ≤ O.faults out.new }
     ensures kept { OnOk result (O.faults out.new ≡ O.faults out.old) }
@@ -33,8 +34,8 @@ pub fn put<O: Sink>(out: &mut O, bytes: &[u8]) -> Result<(), Ended>
 pub fn put_due<O: Sink, E: Sink>(out: &mut O, err: &mut E, due: &Due) -> Ended
     requires { IsFinished due.now.ended }
     ensures { Puts (owed_of due.now)
-        (sink_at out.old (O.held out.old) (O.faults out.old)) (sink_at out.new (O.held out.new) (O.faults out.new))
-        (sink_at err.old (E.held err.old) (E.faults err.old)) (sink_at err.new (E.held err.new) (E.faults err.new))
+        (sink_at out.old (O.held out.old) (O.longest out.old) (O.faults out.old)) (sink_at out.new (O.held out.new) (O.longest out.new) (O.faults out.new))
+        (sink_at err.old (E.held err.old) (E.longest err.old) (E.faults err.old)) (sink_at err.new (E.held err.new) (E.longest err.new) (E.faults err.new))
         result }
 {
     if let Err(ended) = put(out, due.out.as_slice()) {

@@ -3,7 +3,7 @@ ghost use Rattle.std.specs.Prelude.{◌≡◌, ◌≤◌, [], map, string_bytes,
 ghost use Rattle.cov_words.specs.Asked.{HasPercents, command_of};
 ghost use Rattle.cov_commands.specs.Call.{Asks, Call, Runs, moment};
 ghost use Rattle.cov_commands.specs.Owed.{Gives};
-ghost use Rattle.cov_commands.specs.Sinks.{Gains, GainsLine, sink_at};
+ghost use Rattle.cov_commands.specs.Sinks.{Gains, GainsLine, HasHanded, sink_at};
 ghost use Rattle.cov_commands.specs.Stores.{store_at};
 ghost use Rattle.cov_commands.specs.Sure.{GivesDue};
 ghost use Rattle.cov_commands.specs.Ends.{last_line};
@@ -44,11 +44,11 @@ pub fn run_tool<S: Store, O: Sink, E: Sink>(
     ensures { Call tool_duty (command_of (map string_bytes words.now))
         (moment
         (store_at store.old (S.files store.old) (S.folders store.old) (S.faults store.old))
-        (sink_at out.old (O.held out.old) (O.faults out.old))
-        (sink_at err.old (E.held err.old) (E.faults err.old)))
+        (sink_at out.old (O.held out.old) (O.longest out.old) (O.faults out.old))
+        (sink_at err.old (E.held err.old) (E.longest err.old) (E.faults err.old)))
         (moment (store_at store.new (S.files store.new) (S.folders store.new) (S.faults store.new))
-        (sink_at out.new (O.held out.new) (O.faults out.new))
-        (sink_at err.new (E.held err.new) (E.faults err.new)))
+        (sink_at out.new (O.held out.new) (O.longest out.new) (O.faults out.new))
+        (sink_at err.new (E.held err.new) (E.longest err.new) (E.faults err.new)))
         result }
 {
     let ended = ask(alloc, words, store, out, err);
@@ -67,11 +67,11 @@ fn ask<S: Store, O: Sink, E: Sink>(
     ensures { Asks tool_duty (command_of (map string_bytes words.now))
         (moment
         (store_at store.old (S.files store.old) (S.folders store.old) (S.faults store.old))
-        (sink_at out.old (O.held out.old) (O.faults out.old))
-        (sink_at err.old (E.held err.old) (E.faults err.old)))
+        (sink_at out.old (O.held out.old) (O.longest out.old) (O.faults out.old))
+        (sink_at err.old (E.held err.old) (E.longest err.old) (E.faults err.old)))
         (moment (store_at store.new (S.files store.new) (S.folders store.new) (S.faults store.new))
-        (sink_at out.new (O.held out.new) (O.faults out.new))
-        (sink_at err.new (E.held err.new) (E.faults err.new)))
+        (sink_at out.new (O.held out.new) (O.longest out.new) (O.faults out.new))
+        (sink_at err.new (E.held err.new) (E.longest err.new) (E.faults err.new)))
         result }
 {
     match read_words(alloc, words) {
@@ -97,11 +97,12 @@ pub fn run_sure(
 /// Writes the last line of a command that did not come to its end, or says why it isn't whole. That changes no answer.
 fn tell_end<E: Sink>(err: &mut E, ended: Ended) -> Result<(), Ended>
     ensures whole { OnOk result (Gains
-        (sink_at err.old (E.held err.old) (E.faults err.old)) (sink_at err.new (E.held err.new) (E.faults err.new))
+        (sink_at err.old (E.held err.old) (E.longest err.old) (E.faults err.old)) (sink_at err.new (E.held err.new) (E.longest err.new) (E.faults err.new))
         (last_line ended)) }
     ensures gains { GainsLine
-        (sink_at err.old (E.held err.old) (E.faults err.old)) (sink_at err.new (E.held err.new) (E.faults err.new))
+        (sink_at err.old (E.held err.old) (E.longest err.old) (E.faults err.old)) (sink_at err.new (E.held err.new) (E.longest err.new) (E.faults err.new))
         [] (last_line ended) }
+    ensures handed { HasHanded (E.longest err.new) (last_line ended) }
     ensures nothing { last_line ended ≡ [] → err.new ≡ err.old }
     ensures later { E.faults err.old ≤ E.faults err.new }
 {
@@ -137,11 +138,11 @@ fn run<S: Store, O: Sink, E: Sink>(
     ensures { Runs (tool_duty command.now)
         (moment
         (store_at store.old (S.files store.old) (S.folders store.old) (S.faults store.old))
-        (sink_at out.old (O.held out.old) (O.faults out.old))
-        (sink_at err.old (E.held err.old) (E.faults err.old)))
+        (sink_at out.old (O.held out.old) (O.longest out.old) (O.faults out.old))
+        (sink_at err.old (E.held err.old) (E.longest err.old) (E.faults err.old)))
         (moment (store_at store.new (S.files store.new) (S.folders store.new) (S.faults store.new))
-        (sink_at out.new (O.held out.new) (O.faults out.new))
-        (sink_at err.new (E.held err.new) (E.faults err.new)))
+        (sink_at out.new (O.held out.new) (O.longest out.new) (O.faults out.new))
+        (sink_at err.new (E.held err.new) (E.longest err.new) (E.faults err.new)))
         result }
 {
     match look(alloc, command, store) {

@@ -8,10 +8,11 @@ use Rattle.cov_commands.proofs.tool.run_tool.Goals as goal
 
 pub returns : goal.returns
 returns g c =
-    called tool_duty (command_of (map string_bytes c.args.words.now)) _ _ (sink_at c.tell_end.new.err (g.E.Sink.held c.tell_end.new.err) (g.E.Sink.faults c.tell_end.new.err))
+    called tool_duty (command_of (map string_bytes c.args.words.now)) _ _ (sink_at c.tell_end.new.err (g.E.Sink.held c.tell_end.new.err) (g.E.Sink.longest c.tell_end.new.err) (g.E.Sink.faults c.tell_end.new.err))
     c.ask-ended.result tool-lawful c.ask-ended.ensures
     (record {
       gains = c.tell_end.ensures.gains;
-      none = λ none. λ i. let same = c.tell_end.ensures.nothing none in sink_at (same i) (g.E.Sink.held (same i)) (g.E.Sink.faults (same i));
+      handed = c.tell_end.ensures.handed;
+      none = λ none. λ i. let same = c.tell_end.ensures.nothing none in sink_at (same i) (g.E.Sink.held (same i)) (g.E.Sink.longest (same i)) (g.E.Sink.faults (same i));
       later = c.tell_end.ensures.later;
     })
