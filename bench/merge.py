@@ -1,4 +1,4 @@
-"""Times `merge` on a folder of snapshots, beside Node.js reading and parsing the same files.
+"""Times `merge` on a folder of snapshots, beside Node.js reading and parsing the same files, and beside @bcoe/v8-coverage.
 
 usage: python3 bench/merge.py [SNAPSHOTS] [FUNCTIONS]
        python3 bench/merge.py --folder FOLDER
@@ -25,6 +25,9 @@ PARSE = (
     "for(const f of fs.readdirSync(d)){n+=JSON.parse(fs.readFileSync(d+'/'+f,'utf8')).result.length}"
     "console.log(n)"
 )
+PEER = TOP / "bench" / "merge_peer.cjs"
+# Where Debian's packages of Node.js put their modules.
+MODULES = os.environ.get("NODE_PATH", "/usr/share/nodejs")
 ROUNDS = 3
 
 
@@ -46,7 +49,7 @@ def timed(words: list[str]) -> tuple[float, int]:
     seconds, memory = [], 0
     for _ in range(ROUNDS):
         start = time.monotonic()
-        child = subprocess.Popen(words, stdout=subprocess.DEVNULL)
+        child = subprocess.Popen(words, stdout=subprocess.DEVNULL, env={**os.environ, "NODE_PATH": MODULES})
         _, status, used = os.wait4(child.pid, 0)
         seconds.append(time.monotonic() - start)
         memory = max(memory, used.ru_maxrss)
@@ -66,7 +69,16 @@ def compare(folder: pathlib.Path) -> float:
     print(f"         {memory * 1024 / max(sizes):8.2f} bytes of peak memory for each byte of the largest text")
     print(f"node     {theirs:8.3f} s  {size / theirs / 1e6:8.2f} MB/s  (start, read and JSON.parse)")
     print(f"ratio    {ours / theirs:8.2f}")
+    if has_peer():
+        peer, room = timed(["node", str(PEER), str(folder)])
+        print(f"peer     {peer:8.3f} s  {size / peer / 1e6:8.2f} MB/s  peak {room / 1024:.1f} MiB  (@bcoe/v8-coverage)")
+        print(f"ratio    {ours / peer:8.2f}  of its time, {memory / room:.2f} of its memory")
     return ours
+
+
+def has_peer() -> bool:
+    words = ["node", "-e", "require.resolve('@bcoe/v8-coverage')"]
+    return subprocess.run(words, env={**os.environ, "NODE_PATH": MODULES}, capture_output=True).returncode == 0
 
 
 def on_made(snapshots: int, functions: int) -> None:
