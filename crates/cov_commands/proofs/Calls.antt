@@ -161,7 +161,7 @@ called {C} {W} {O} {E} duty asked before mid err ended law asks last = record {
         out = ap (λ (m : Moment W O E). m.out) same.0;
         err = subst (λ (m : Moment W O E). GainsLine m.err err [] (last_line ended)) same.0 last.gains;
         handed = last.handed;
-    later = subst (λ (m : Moment W O E). m.err.faults ≤ err.faults) same.0 last.later;
+        later = subst (λ (m : Moment W O E). m.err.faults ≤ err.faults) same.0 last.later;
       };
   ran = λ command is. ran (duty command) before mid err ended (law command) (asks.some command is) last;
 }
