@@ -1,0 +1,6 @@
+pub mod Machine
+pub mod View
+pub mod Kept
+pub mod Fates
+pub mod Examples
+pub mod Laws

@@ -1,0 +1,17 @@
+//! Worked examples of the session machine, and what holds of all its events.
+ghost use Rattle.cov_session.specs.Laws.{FatesOfFrames};
+ghost use Rattle.cov_session.specs.Examples.{TwoSessions, Views, OneSession, StillRuns, Resumes};
+
+/// What the machine does on worked examples.
+pub fn worked_examples()
+    ensures two_sessions { TwoSessions }
+    ensures views { Views }
+    ensures one_session { OneSession }
+    ensures still_runs { StillRuns }
+    ensures resumes { Resumes }
+{}
+
+/// Each played frame has one fate, and each answered take has exactly the frames whose fate it is.
+pub fn fates_of_frames()
+    ensures { FatesOfFrames }
+{}
