@@ -9,10 +9,10 @@ Node.js reading and parsing the larger folder, in the same run.
 
 import argparse
 import json
+import os
 import pathlib
 import subprocess
 import tempfile
-import time
 
 TOP = pathlib.Path(__file__).resolve().parent.parent
 PROGRAM = TOP / "crates" / "c8_command" / "out" / "c8_command"
@@ -21,7 +21,7 @@ PARSE = (
     "for(const f of fs.readdirSync(d)){JSON.parse(fs.readFileSync(d+'/'+f,'utf8'))}"
 )
 LIMIT = 2**64 - 1
-ROUNDS = 5
+ROUNDS = 3
 
 
 def function(name: str, ranges: list[tuple[int, int, int]]) -> dict:
@@ -66,14 +66,14 @@ KINDS = {
 
 
 def timed(words: list[str]) -> float:
-    """The least seconds of some rounds."""
+    """The least processor seconds of some rounds."""
     best = None
     for _ in range(ROUNDS):
-        start = time.monotonic()
-        status = subprocess.run(words, stdout=subprocess.DEVNULL, stderr=subprocess.DEVNULL).returncode
-        seconds = time.monotonic() - start
-        if status not in (0, 3):
-            raise SystemExit(f"{words[0]} ended with {status}")
+        child = subprocess.Popen(words, stdout=subprocess.DEVNULL, stderr=subprocess.DEVNULL)
+        _, status, used = os.wait4(child.pid, 0)
+        seconds = used.ru_utime + used.ru_stime
+        if os.waitstatus_to_exitcode(status) not in (0, 3):
+            raise SystemExit(f"{words[0]} ended with {os.waitstatus_to_exitcode(status)}")
         best = seconds if best is None else min(best, seconds)
     return best
 

@@ -5,8 +5,8 @@ usage: python3 bench/merge.py [SNAPSHOTS] [FUNCTIONS]
 
 The first form makes its snapshots, one script with functions of one range each. The second takes a folder that
 NODE_V8_COVERAGE wrote, and runs on the first half of its files as well, so that it shows how time grows. Run it by hand
-after `rt ci`, which leaves the program at crates/c8_command/out/c8_command. It prints times, bytes per second, peak memory
-and ratios, and is no part of the gate.
+after `rt ci`, which leaves the program at crates/c8_command/out/c8_command. It prints processor times (so other work on the
+machine counts less), bytes per second, peak memory and ratios, and is no part of the gate.
 """
 
 import argparse
@@ -16,7 +16,6 @@ import pathlib
 import shutil
 import subprocess
 import tempfile
-import time
 
 TOP = pathlib.Path(__file__).resolve().parent.parent
 PROGRAM = TOP / "crates" / "c8_command" / "out" / "c8_command"
@@ -45,13 +44,12 @@ def snapshot(number: int, functions: int) -> dict:
 
 
 def timed(words: list[str]) -> tuple[float, int]:
-    """The least seconds of some rounds, and the peak memory of one in KiB."""
+    """The least processor seconds of some rounds, and the peak memory of one in KiB."""
     seconds, memory = [], 0
     for _ in range(ROUNDS):
-        start = time.monotonic()
         child = subprocess.Popen(words, stdout=subprocess.DEVNULL, env={**os.environ, "NODE_PATH": MODULES})
         _, status, used = os.wait4(child.pid, 0)
-        seconds.append(time.monotonic() - start)
+        seconds.append(used.ru_utime + used.ru_stime)
         memory = max(memory, used.ru_maxrss)
         if status != 0:
             raise SystemExit(f"{words[0]} ended with {os.waitstatus_to_exitcode(status)}")
