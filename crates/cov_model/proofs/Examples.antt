@@ -7,15 +7,15 @@ use Rattle.cov_model.specs.Nesting.{range_fault, inner, is_well_nested}
 use Rattle.cov_model.specs.Sums.{reports, root, total, flag, fits, sum_fault}
 use Rattle.cov_model.specs.Normal.{range, maximal_runs, flat, is_flat}
 use Rattle.cov_model.specs.Nested.{nest_to, nested}
-use Rattle.cov_model.specs.File.{scripts, scripts_data, file}
+use Rattle.cov_model.specs.File.{scripts_in, scripts_data, file_in}
 use Rattle.cov_model.specs.Reading.{snapshot_of, reading}
 use Rattle.cov_model.specs.Held.{held_of}
 use Rattle.cov_model.specs.Outcome.{accepted_over, answers_over}
-use Rattle.cov_model.specs.Examples.{TwoFiles, HiddenRoot, UrlTwice, TwoNames, NoFunction, CrossingRanges, RangeShapes, PastTheLimit, Branches, BranchesNested, ComesAgain, TwoFilesNested, ThereAndBack, NoSnapshot, ReadingFaults, NormalFile, FlatLists, HeldSums, one}
+use Rattle.cov_model.specs.Examples.{TwoFiles, HiddenRoot, UrlTwice, TwoNames, NoFunction, CrossingRanges, RangeShapes, PastTheLimit, Branches, BranchesFlat, ComesAgain, ThereAndBack, NoSnapshot, ReadingFaults, NormalFile, FlatLists, HeldSums, one}
 
 -- what a proof unfolds to compute the definitions on a literal
 unfoldable pub cov_on_literals : ⊤
-unfolding range_fault inner is_well_nested reports root total flag fits sum_fault maximal_runs flat is_flat nest_to nested scripts scripts_data file snapshot_of reading accepted_over answers_over
+unfolding range_fault inner is_well_nested reports root total flag fits sum_fault maximal_runs flat is_flat nest_to nested scripts_in scripts_data file_in snapshot_of reading accepted_over answers_over
 cov_on_literals = tt
 
 pub two_files : TwoFiles
@@ -54,17 +54,13 @@ pub branches : Branches
 unfolding cov_on_literals
 branches = refl
 
-pub branches_nested : BranchesNested
+pub branches_flat : BranchesFlat
 unfolding cov_on_literals
-branches_nested = refl
+branches_flat = refl
 
 pub comes_again : ComesAgain
 unfolding cov_on_literals
 comes_again = refl
-
-pub two_files_nested : TwoFilesNested
-unfolding cov_on_literals
-two_files_nested = refl
 
 pub there_and_back : ThereAndBack
 unfolding cov_on_literals serde_json_on_literals is_utf8 chars digits

@@ -13,7 +13,9 @@ use Rattle.cov_model.specs.Nesting.{range_fault}
 use Rattle.cov_text.specs.Listing.{limit}
 use Rattle.cov_model.specs.Sums.{root, total}
 use Rattle.cov_model.specs.Normal.{range, is_flat}
-use Rattle.cov_model.specs.Nested.{nested}
+use Rattle.cov_model.specs.declared.report.ListForm.{ListForm}
+use Rattle.cov_model.specs.declared.report.ListForm.TheVariants.{Nested, Flat}
+use Rattle.cov_model.specs.Forms.{list_in}
 use Rattle.cov_model.specs.File.{scripts, file}
 use Rattle.cov_model.specs.Reading.{reading, at_range}
 use Rattle.cov_model.specs.Files.{IsNormalFile}
@@ -102,26 +104,22 @@ abbrev pub branch_ranges : List Range
 branch_ranges = range 0 34 1 ∷ range 13 33 10 ∷ range 19 24 4 ∷ range 24 30 6 ∷ []
 
 abbrev pub Branches : Type 0
-Branches = merged (one branch_ranges ∷ []) ≡ just (range 0 34 1 ∷ range 13 19 10 ∷ range 19 24 4 ∷ range 24 30 6 ∷ range 30 33 10 ∷ [])
+Branches = merged (one branch_ranges ∷ []) ≡ just branch_ranges
 
--- ---- the nested form
+-- ---- the two forms
 
-abbrev pub nested_of : ℕ → ℕ → List Range → List Range
-nested_of start end ranges = nested start end (root (one ranges ∷ []) (the_key start end)) (total (one ranges ∷ []) (the_key start end))
+abbrev pub list_of : ListForm → ℕ → ℕ → List Range → List Range
+list_of form start end ranges = list_in form start end (root (one ranges ∷ []) (the_key start end)) (total (one ranges ∷ []) (the_key start end))
 
-abbrev pub BranchesNested : Type 0
-BranchesNested = nested_of 0 34 branch_ranges ≡ range 0 34 1 ∷ range 13 33 10 ∷ range 19 24 4 ∷ range 24 30 6 ∷ []
+-- the same counts side by side
+abbrev pub BranchesFlat : Type 0
+BranchesFlat = list_of Flat 0 34 branch_ranges ≡ range 0 34 1 ∷ range 13 19 10 ∷ range 19 24 4 ∷ range 24 30 6 ∷ range 30 33 10 ∷ []
 
 -- what comes again behind the last offset of a count is no part of it
 abbrev pub ComesAgain : Type 0
 ComesAgain =
     let ranges = range 0 10 1 ∷ range 2 7 5 ∷ range 4 6 7 ∷ range 7 9 7 ∷ [] in
-    nested_of 0 10 ranges ≡ ranges
-
-abbrev pub TwoFilesNested : Type 0
-TwoFilesNested =
-    let two = one (range 0 100 1 ∷ range 10 50 5 ∷ range 20 30 3 ∷ []) ∷ one (range 0 100 2 ∷ range 20 60 0 ∷ []) ∷ [] in
-    nested 0 100 (root two (the_key 0 100)) (total two (the_key 0 100)) ≡ range 0 100 3 ∷ range 10 20 7 ∷ range 30 50 5 ∷ range 50 60 1 ∷ []
+    list_of Nested 0 10 ranges ≡ ranges
 
 -- ---- from a text, and to a text
 

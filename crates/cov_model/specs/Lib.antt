@@ -2,6 +2,7 @@ pub mod Nesting
 pub mod Sums
 pub mod Normal
 pub mod Nested
+pub mod Forms
 pub mod File
 pub mod Reading
 pub mod Files

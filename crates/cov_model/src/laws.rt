@@ -1,6 +1,6 @@
 //! Laws over the definitions, and worked examples of them.
 ghost use Rattle.cov_model.specs.Laws.{JoinsWhereItFits, AcceptedFits, StaysPast, OutcomesChain, FlatCounts};
-ghost use Rattle.cov_model.specs.Examples.{TwoFiles, HiddenRoot, UrlTwice, TwoNames, NoFunction, CrossingRanges, RangeShapes, PastTheLimit, Branches, BranchesNested, ComesAgain, TwoFilesNested, ThereAndBack, NoSnapshot, ReadingFaults, NormalFile, FlatLists, HeldSums};
+ghost use Rattle.cov_model.specs.Examples.{TwoFiles, HiddenRoot, UrlTwice, TwoNames, NoFunction, CrossingRanges, RangeShapes, PastTheLimit, Branches, BranchesFlat, ComesAgain, ThereAndBack, NoSnapshot, ReadingFaults, NormalFile, FlatLists, HeldSums};
 
 /// What the definitions give on worked examples.
 pub fn worked_examples()
@@ -13,9 +13,8 @@ pub fn worked_examples()
     ensures shapes { RangeShapes }
     ensures past_the_limit { PastTheLimit }
     ensures branches { Branches }
-    ensures branches_nested { BranchesNested }
+    ensures branches_flat { BranchesFlat }
     ensures comes_again { ComesAgain }
-    ensures two_files_nested { TwoFilesNested }
     ensures there_and_back { ThereAndBack }
     ensures empty { NoSnapshot }
     ensures faults { ReadingFaults }

@@ -8,7 +8,7 @@ mod steps;
 mod sums;
 
 pub use cov_text::{Items, MAX_TEXT, Text};
-pub use report::{FunctionReport, Range, RangeFault};
+pub use report::{FunctionReport, ListForm, Range, RangeFault};
 pub use snapshot::{Entry, Field, Place, ShapeFault, Snapshot, TextFault};
 pub use steps::Steps;
 pub use sums::{Answer, At, Key, SumFault};

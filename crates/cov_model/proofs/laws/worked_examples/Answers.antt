@@ -28,14 +28,11 @@ returns-clause-past_the_limit c = examples.past_the_limit
 pub returns-clause-branches : goal.returns-clause-branches
 returns-clause-branches c = examples.branches
 
-pub returns-clause-branches_nested : goal.returns-clause-branches_nested
-returns-clause-branches_nested c = examples.branches_nested
+pub returns-clause-branches_flat : goal.returns-clause-branches_flat
+returns-clause-branches_flat c = examples.branches_flat
 
 pub returns-clause-comes_again : goal.returns-clause-comes_again
 returns-clause-comes_again c = examples.comes_again
-
-pub returns-clause-two_files_nested : goal.returns-clause-two_files_nested
-returns-clause-two_files_nested c = examples.two_files_nested
 
 pub returns-clause-there_and_back : goal.returns-clause-there_and_back
 returns-clause-there_and_back c = examples.there_and_back
