@@ -19,7 +19,7 @@ use Rattle.cov_steps.proofs.Sorted.{inner-sorted}
 use Rattle.cov_steps.specs.Runs.{count_in, counted}
 use Rattle.cov_normal.specs.Nests.{IsChild, Nests}
 use Rattle.cov_normal.specs.Nests.Nests.{plain, child}
-use Rattle.cov_normal.specs.NestedLaws.{ItIsByCases, NoOtherIs, ItCounts, ItIsWellNested, CountsDetermineIt, IsNested, ItIsNested, TwoAreOne}
+use Rattle.cov_normal.specs.NestedLaws.{ItIsByCases, NoOtherIs, ItCounts, IsNested, ItIsNested, TwoAreOne}
 use Rattle.cov_normal.proofs.Nests.{only, nests}
 
 -- ---- where the ranges lie
@@ -204,9 +204,9 @@ lies-sound s e c r l = grind (arith, nat_tests)
 root-sound : (s e c : ℕ) → s ≤ e → (nat_le s e && is_within (range s e c) (range s e c)) ≡ true
 root-sound s e c le = grind (arith, nat_tests)
 
-pub it_is_well_nested : ItIsWellNested
+pub nested-well : (s e c : ℕ) (f : ℕ → ℕ) → s ≤ e → range_fault (nested s e c f) ≡ None
 unfolding nested is_well_nested
-it_is_well_nested s e c f le =
+nested-well s e c f le =
     let xs = nest s e c f in
     let root = range s e c in
     let h = nests f s e c in
@@ -258,9 +258,9 @@ nests-agree f g s e c xs same (child _ _ _ a b p inside behind _ h i k is) =
 pub nest-agree : (f g : ℕ → ℕ) (s e c : ℕ) → ((o : ℕ) → s ≤ o → o < e → f o ≡ g o) → nest s e c f ≡ nest s e c g
 nest-agree f g s e c same = only g s e c (nest s e c f) (nest s e c g) (nests-agree f g s e c (nest s e c f) same (nests f s e c)) (nests g s e c)
 
-pub counts_determine_it : CountsDetermineIt
+pub nested-same : (s e c : ℕ) (f g : ℕ → ℕ) → ((o : ℕ) → s ≤ o → o < e → f o ≡ g o) → nested s e c f ≡ nested s e c g
 unfolding nested
-counts_determine_it s e c f g same = ap (λ xs. range s e c ∷ xs) (nest-agree f g s e c same)
+nested-same s e c f g same = ap (λ xs. range s e c ∷ xs) (nest-agree f g s e c same)
 
 pub nested-root : (s e c : ℕ) (f : ℕ → ℕ) → nested s e c f ≡ range s e c ∷ nest s e c f
 unfolding nested
@@ -270,7 +270,7 @@ nested-root s e c f = refl
 pub nested-own : (root : Range) (rest : List Range) (f : ℕ → ℕ) → root.start ≤ root.end → root ∷ rest ≡ nested root.start root.end root.count f → IsNested (root ∷ rest)
 nested-own root rest f le is = (
   le,
-  is ∙ counts_determine_it root.start root.end root.count f (inner_count (root ∷ rest))
+  is ∙ nested-same root.start root.end root.count f (inner_count (root ∷ rest))
       (λ o low high. sym (ap (λ xs. unwrap_or (inner xs o) 0) is ∙ ap (λ n. unwrap_or n 0) (it_counts root.start root.end root.count f o low high))),
 )
 
@@ -284,18 +284,18 @@ tail-same x y xs ys e = cc
 pub two_are_one : TwoAreOne
 two_are_one root a b ha hb same =
     tail-same root root a b
-    (ha.1 ∙ counts_determine_it root.start root.end root.count (inner_count (root ∷ a)) (inner_count (root ∷ b)) same ∙ sym hb.1)
+    (ha.1 ∙ nested-same root.start root.end root.count (inner_count (root ∷ a)) (inner_count (root ∷ b)) same ∙ sym hb.1)
 
 pub nested-faultless : (ranges : List Range) → IsNested ranges → range_fault ranges ≡ None
 nested-faultless [] h = absurd h
-nested-faultless (root ∷ rest) h = ap range_fault h.1 ∙ it_is_well_nested root.start root.end root.count (inner_count (root ∷ rest)) h.0
+nested-faultless (root ∷ rest) h = ap range_fault h.1 ∙ nested-well root.start root.end root.count (inner_count (root ∷ rest)) h.0
 
 -- the counts of the runs of ranges are their own, so that one list comes of both
 pub nested-counted : (root : Range) (rest : List Range)
     → nested root.start root.end root.count (count_in (counted (root ∷ rest)).runs) ≡ nested root.start root.end root.count (inner_count (root ∷ rest))
 nested-counted root rest =
     let f = inner_count (root ∷ rest) in
-    counts_determine_it root.start root.end root.count (count_in (maximal_runs root.start root.end f)) f (λ o low high. count_in-maximal root.start root.end o f low high)
+    nested-same root.start root.end root.count (count_in (maximal_runs root.start root.end f)) f (λ o low high. count_in-maximal root.start root.end o f low high)
 
 -- ranges that nest are nested normal exactly where they are the list of their counts
 pub is-own : (root : Range) (rest list : List Range) → range_fault (root ∷ rest) ≡ None → list ≡ nested root.start root.end root.count (inner_count (root ∷ rest))

@@ -7,3 +7,4 @@ pub mod Counting
 pub mod Levels
 pub mod Stacked
 pub mod Shown
+pub mod Forms

@@ -1,15 +1,14 @@
 -- What the tests of the normal shape tell, and that ranges of this shape nest.
 use Rattle.std.proofs.Common.{◌≡◌, ℕ, ◌<◌, ◌≤◌, true, List, [], ◌∷◌, refl, arith}
-use Rattle.std.specs.Prelude.{◌&&◌, not, nat_le}
+use Rattle.std.specs.Prelude.{◌&&◌, not, nat_le, None}
 use Rattle.std.specs.List.{list_all}
 use Rattle.std.proofs.lemmas.Bool.Decides.{nat_tests}
 use Rattle.cov_model.specs.declared.report.Range.{Range}
-use Rattle.cov_model.specs.Nesting.{crosses, each_pair, is_within, is_well_nested}
+use Rattle.cov_model.specs.Nesting.{crosses, each_pair, is_within, is_well_nested, range_fault}
 use Rattle.cov_model.specs.Normal.{each_next, is_followed_by, is_flat}
 use Rattle.cov_ranges.proofs.Nested.{faultless_where_nested}
 use Rattle.cov_steps.proofs.Checks.{and-both, both-and, all-more}
 use Rattle.cov_normal.specs.Parts.{may_stand}
-use Rattle.cov_normal.specs.Laws.{ItNests}
 
 -- ---- the tests as facts
 
@@ -109,10 +108,10 @@ may-apart root r e = grind (arith, nat_tests)
 root-lies : (root : Range) → root.start ≤ root.end → (nat_le root.start root.end && is_within root root) ≡ true
 root-lies root le = grind (arith, nat_tests)
 
-pub it_nests : ItNests
+pub shape-nests : (ranges : List Range) → is_flat ranges ≡ true → range_fault ranges ≡ None
 unfolding is_flat is_well_nested
-it_nests [] e = absurd cc
-it_nests (root ∷ rest) e =
+shape-nests [] e = absurd cc
+shape-nests (root ∷ rest) e =
     let is = known root rest e in
     let within : list_all (λ r. nat_le r.start r.end && is_within root r) (root ∷ rest) ≡ true =
     both-and (nat_le root.start root.end && is_within root root) (list_all (λ r. nat_le r.start r.end && is_within root r) rest) (root-lies root is.ordered)

@@ -1,18 +1,18 @@
--- There is exactly one normal list, and a list of its shape is that of its own counts.
+-- There is exactly one flat list.
 use Rattle.std.proofs.Common.{◌≡◌, ℕ, ◌<◌, ◌≤◌, true, false, List, [], ◌∷◌, refl, sym, ap, ◌∙◌, subst, arith, inl, inr}
-use Rattle.std.specs.Prelude.{cond, eqb, ◌==◌, ◌&&◌, not, nat_le, nat_lt, Some, unwrap_or}
+use Rattle.std.specs.Prelude.{cond, eqb, ◌==◌, ◌&&◌, not, nat_le, nat_lt, Some}
 use Rattle.std.specs.List.{list_all}
 use Rattle.std.proofs.lemmas.Bool.{cases_lt, cases_Bool, lt-ltb, le-ltb, le-leb}
 use Rattle.std.proofs.lemmas.Bool.Decides.{nat_tests}
 use Rattle.cov_model.specs.declared.report.Range.{Range}
-use Rattle.cov_model.specs.Nesting.{inner, inner_count}
+use Rattle.cov_model.specs.Nesting.{inner}
 use Rattle.cov_model.specs.Normal.{range, maximal_runs, flat, is_flat, each_next, is_followed_by, IsFlatOf}
 use Rattle.cov_model.proofs.Flat.{flat_counts}
-use Rattle.cov_steps.specs.Runs.{BeginsOtherwise, AreRuns, count_in, counted}
+use Rattle.cov_steps.specs.Runs.{BeginsOtherwise, AreRuns, count_in}
 use Rattle.cov_steps.proofs.Checks.{both-and}
-use Rattle.cov_steps.proofs.Maximal.{AreRuns-ordered, AreRuns-maximal, count_in-maximal, maximal_runs-same, maximal_runs-counts}
+use Rattle.cov_steps.proofs.Maximal.{AreRuns-ordered, AreRuns-maximal, maximal_runs-same, maximal_runs-counts}
 use Rattle.cov_normal.specs.Parts.{may_stand, counts_otherwise, told}
-use Rattle.cov_normal.specs.Laws.{ThereIsOne, ThereIsNoOther, IsOfItsCounts, ComesBack}
+use Rattle.cov_normal.specs.Laws.{ThereIsOne, ThereIsNoOther}
 use Rattle.cov_normal.proofs.Lists.{Apart, NextOtherwise, Known, known}
 
 -- ---- all runs of a root, from those that are told
@@ -76,7 +76,7 @@ told-filled root s e [] h = told-gap root s e []
 told-filled root s e (r ∷ rs) h =
     told-gap root s r.start (r ∷ filled r.end e root.count rs) ∙ told-other root r (filled r.end e root.count rs) h.2 ∙ ap (λ xs. r ∷ xs) (told-filled root r.end e rs h.4)
 
--- ---- a list of this shape is the normal list of its counts
+-- ---- a list of this shape is the flat list of its counts
 
 -- with the counts of the runs that it leaves
 flat-filled : (root : Range) (rest : List Range) (f : ℕ → ℕ) → Known root rest
@@ -97,27 +97,16 @@ inner-filled root rest o is low high =
 some-same : (a b : ℕ) → Some a ≡ Some b → a ≡ b
 some-same a b e = cc
 
-pub flat-of : (root : Range) (rest : List Range) (f : ℕ → ℕ) → is_flat (root ∷ rest) ≡ true
+flat-of : (root : Range) (rest : List Range) (f : ℕ → ℕ) → is_flat (root ∷ rest) ≡ true
     → ((o : ℕ) → root.start ≤ o → o < root.end → inner (root ∷ rest) o ≡ Some (f o))
     → flat root.start root.end root.count f ≡ root ∷ rest
 flat-of root rest f e counts =
     let is = known root rest e in
     flat-filled root rest f is (λ o low high. some-same (f o) (count_in (filled root.start root.end root.count rest) o) (sym (counts o low high) ∙ inner-filled root rest o is low high))
 
-pub is_of_its_counts : IsOfItsCounts
-is_of_its_counts root rest e =
-    let is = known root rest e in
-    sym (flat-filled root rest (inner_count (root ∷ rest)) is (λ o low high. ap (λ c. unwrap_or c 0) (inner-filled root rest o is low high)))
-
-flat-same : (s e c : ℕ) (f g : ℕ → ℕ) → ((o : ℕ) → s ≤ o → o < e → f o ≡ g o) → flat s e c f ≡ flat s e c g
+pub flat-same : (s e c : ℕ) (f g : ℕ → ℕ) → ((o : ℕ) → s ≤ o → o < e → f o ≡ g o) → flat s e c f ≡ flat s e c g
 unfolding flat
 flat-same s e c f g same = ap (λ rs. range s e c ∷ told (range s e c) rs) (maximal_runs-same s e f g same)
-
-pub comes_back : ComesBack
-comes_back root rest e =
-    is_of_its_counts root rest e
-    ∙ flat-same root.start root.end root.count (inner_count (root ∷ rest)) (count_in (counted (root ∷ rest)).runs)
-    (λ o low high. sym (count_in-maximal root.start root.end o (inner_count (root ∷ rest)) low high))
 
 one-is : (s e c : ℕ) (f : ℕ → ℕ) (ranges : List Range) → IsFlatOf s e c f ranges → flat s e c f ≡ ranges
 one-is s e c f ranges h =
@@ -128,7 +117,7 @@ one-is s e c f ranges h =
 pub there_is_no_other : ThereIsNoOther
 there_is_no_other s e c f a b ha hb = sym (one-is s e c f a ha) ∙ one-is s e c f b hb
 
--- ---- the normal list has the shape
+-- ---- the flat list has the shape
 
 may-run : (root r : Range) → r.start < r.end → root.start ≤ r.start → r.end ≤ root.end → not (r.count == root.count) ≡ true → may_stand root r ≡ true
 may-run root r up from to other = grind (arith, nat_tests)
@@ -183,7 +172,7 @@ each-told root s (r ∷ rs) h =
       | false ↦ each-told root r.end rs h.3
     ]
 
-flat-shape : (s e c : ℕ) (f : ℕ → ℕ) → s ≤ e → is_flat (flat s e c f) ≡ true
+pub flat-shape : (s e c : ℕ) (f : ℕ → ℕ) → s ≤ e → is_flat (flat s e c f) ≡ true
 unfolding flat is_flat
 flat-shape s e c f le =
     let root = range s e c in
@@ -198,16 +187,13 @@ unfolding flat
 flat-root s e c f = refl
 
 pub there_is_one : ThereIsOne
-there_is_one s e c f le = (
-  flat-shape s e c f le,
-  record {
-    shape = flat-shape s e c f le;
-    root = (told (range s e c) (maximal_runs s e f), flat-root s e c f);
-    counts = flat_counts s e c f;
-  },
-)
+there_is_one s e c f le = record {
+  shape = flat-shape s e c f le;
+  root = (told (range s e c) (maximal_runs s e f), flat-root s e c f);
+  counts = flat_counts s e c f;
+}
 
--- ---- the normal list of runs
+-- ---- the flat list of runs
 
 pub flat-runs : (s e c : ℕ) (rs : List Range) (from to : ℕ) → from ≡ s → to ≡ e → AreRuns from to rs → range s e c ∷ told (range s e c) rs ≡ flat s e c (count_in rs)
 unfolding flat

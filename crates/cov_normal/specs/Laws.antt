@@ -1,28 +1,25 @@
--- What holds of flat normal lists.
-use Rattle.std.specs.Prelude.{◌≡◌, ◌≤◌, ℕ, List, ◌∷◌, None, IsTrue}
+-- What holds of the lists of both forms, and of flat ones.
+use Rattle.std.specs.Prelude.{◌≡◌, ◌<◌, ◌≤◌, ℕ, List, None}
 use Rattle.cov_model.specs.declared.report.Range.{Range}
-use Rattle.cov_model.specs.Nesting.{range_fault, inner_count}
-use Rattle.cov_model.specs.Normal.{flat, is_flat, IsFlatOf}
-use Rattle.cov_steps.specs.Runs.{counted, count_in}
+use Rattle.cov_model.specs.declared.report.ListForm.{ListForm}
+use Rattle.cov_model.specs.Nesting.{range_fault}
+use Rattle.cov_model.specs.Normal.{flat, IsFlatOf}
+use Rattle.cov_model.specs.Forms.{list_in}
 
--- Of a root, its count and the counts at its offsets there is a normal list.
+-- Equal counts at each offset give one list.
+abbrev pub CountsDetermineIt : Type 0
+CountsDetermineIt =
+    (form : ListForm) (start end count : ℕ) (f g : ℕ → ℕ)
+    → ((o : ℕ) → start ≤ o → o < end → f o ≡ g o) → list_in form start end count f ≡ list_in form start end count g
+
+-- Its ranges nest.
+abbrev pub ItIsWellNested : Type 0
+ItIsWellNested = (form : ListForm) (start end count : ℕ) (f : ℕ → ℕ) → start ≤ end → range_fault (list_in form start end count f) ≡ None
+
+-- Of a root, its count and the counts at its offsets there is a flat list.
 abbrev pub ThereIsOne : Type 0
-ThereIsOne = (start end count : ℕ) (f : ℕ → ℕ) → start ≤ end → IsTrue (is_flat (flat start end count f)) × IsFlatOf start end count f (flat start end count f)
+ThereIsOne = (start end count : ℕ) (f : ℕ → ℕ) → start ≤ end → IsFlatOf start end count f (flat start end count f)
 
 -- There is no other.
 abbrev pub ThereIsNoOther : Type 0
 ThereIsNoOther = (start end count : ℕ) (f : ℕ → ℕ) (a b : List Range) → IsFlatOf start end count f a → IsFlatOf start end count f b → a ≡ b
-
--- A list of the normal shape is the normal list of its root and its own innermost counts.
-abbrev pub IsOfItsCounts : Type 0
-IsOfItsCounts =
-    (root : Range) (rest : List Range) → IsTrue (is_flat (root ∷ rest)) → root ∷ rest ≡ flat root.start root.end root.count (inner_count (root ∷ rest))
-
--- So it comes back from its runs.
-abbrev pub ComesBack : Type 0
-ComesBack =
-    (root : Range) (rest : List Range) → IsTrue (is_flat (root ∷ rest)) → root ∷ rest ≡ flat root.start root.end root.count (count_in (counted (root ∷ rest)).runs)
-
--- Its ranges nest.
-abbrev pub ItNests : Type 0
-ItNests = (ranges : List Range) → IsTrue (is_flat ranges) → range_fault ranges ≡ None

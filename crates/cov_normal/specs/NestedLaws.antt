@@ -1,7 +1,7 @@
 -- What holds of nested normal lists.
-use Rattle.std.specs.Prelude.{◌≡◌, ◌<◌, ◌≤◌, ℕ, List, [], ◌∷◌, None, Some}
+use Rattle.std.specs.Prelude.{◌≡◌, ◌<◌, ◌≤◌, ℕ, List, [], ◌∷◌, Some}
 use Rattle.cov_model.specs.declared.report.Range.{Range}
-use Rattle.cov_model.specs.Nesting.{inner, inner_count, range_fault}
+use Rattle.cov_model.specs.Nesting.{inner, inner_count}
 use Rattle.cov_model.specs.Nested.{nest, nested}
 use Rattle.cov_normal.specs.Nests.{Nests}
 
@@ -16,15 +16,6 @@ NoOtherIs = (start end count : ℕ) (f : ℕ → ℕ) (ranges : List Range) → 
 -- At each offset its innermost count is the one that it was made of.
 abbrev pub ItCounts : Type 0
 ItCounts = (start end count : ℕ) (f : ℕ → ℕ) (o : ℕ) → start ≤ o → o < end → inner (nested start end count f) o ≡ Some (f o)
-
--- Its ranges nest.
-abbrev pub ItIsWellNested : Type 0
-ItIsWellNested = (start end count : ℕ) (f : ℕ → ℕ) → start ≤ end → range_fault (nested start end count f) ≡ None
-
--- Equal counts at each offset give one list.
-abbrev pub CountsDetermineIt : Type 0
-CountsDetermineIt =
-    (start end count : ℕ) (f g : ℕ → ℕ) → ((o : ℕ) → start ≤ o → o < end → f o ≡ g o) → nested start end count f ≡ nested start end count g
 
 -- The list is the nested normal list of its own root and innermost counts.
 abbrev pub IsNested : List Range → Type 0

@@ -1,6 +1,7 @@
 -- What a `Nesting` has read of the runs of a function, and what its parts do.
-use Rattle.std.specs.Prelude.{◌≡◌, ℕ, List, [], ◌∷◌, ◌++◌, Option, Some, length, slice_get, slice_set, nat_eq}
-use Rattle.std.specs.HashMap.{get}
+use Rattle.std.specs.Prelude.{◌≡◌, ℕ, List, [], ◌∷◌, ◌++◌, Option, Some, length, slice_get, slice_set}
+use Rattle.std.specs.Ordering.{nat_cmp}
+use Rattle.std.specs.BTreeMap.{get}
 use Rattle.cov_model.specs.declared.report.Range.{Range}
 use Rattle.cov_model.specs.Normal.{range}
 use Rattle.cov_normal.specs.declared.nesting.Nesting.{Nesting}
@@ -8,7 +9,7 @@ use Rattle.cov_normal.specs.Stack.{IsNesting, Shows, height_in}
 
 -- where on the stack a range with the count was put last
 abbrev pub height_told : Nesting → ℕ → Option ℕ
-height_told nesting count = get nat_eq nesting.heights count
+height_told nesting count = get nat_cmp nesting.heights count
 
 -- It has read the runs with these counts from the start up to `at`.
 abbrev pub HasRead : (ℕ → ℕ) → ℕ → ℕ → ℕ → Nesting → Type 0

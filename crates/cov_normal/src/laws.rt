@@ -1,18 +1,18 @@
 //! Laws over the definitions.
-ghost use Rattle.cov_normal.specs.NestedLaws.{ItIsByCases, NoOtherIs, ItCounts, ItIsWellNested, CountsDetermineIt, ItIsNested, TwoAreOne};
-ghost use Rattle.cov_normal.specs.Laws.{ThereIsOne, ThereIsNoOther, IsOfItsCounts, ComesBack, ItNests};
+ghost use Rattle.cov_normal.specs.Laws.{CountsDetermineIt, ItIsWellNested, ThereIsOne, ThereIsNoOther};
+ghost use Rattle.cov_normal.specs.NestedLaws.{ItIsByCases, NoOtherIs, ItCounts, ItIsNested, TwoAreOne};
 
-/// Of a root, its count and the counts at its offsets there is exactly one normal list.
-pub fn one_normal_list()
-    ensures one { ThereIsOne }
-    ensures no_other { ThereIsNoOther }
+/// Of a start, an end, a root count and the counts at the offsets there is one list in each form, and its ranges nest.
+pub fn one_list()
+    ensures one { CountsDetermineIt }
+    ensures nests { ItIsWellNested }
 {}
 
-/// A list of the normal shape is the normal list of its own root and counts, and its ranges nest.
-pub fn normal_shape()
-    ensures counts { IsOfItsCounts }
-    ensures back { ComesBack }
-    ensures nests { ItNests }
+/// A list is the flat one where its root and its counts are these, and what is behind the root is nonempty, rising,
+/// disjoint, within it, of other counts than the root, and of other counts where two touch.
+pub fn flat_list()
+    ensures one { ThereIsOne }
+    ensures no_other { ThereIsNoOther }
 {}
 
 /// The nested list is what its cases give, and they give no other: none inside a stretch of one count, and else a range
@@ -23,15 +23,10 @@ pub fn nested_by_cases()
     ensures no_other { NoOtherIs }
 {}
 
-/// The nested list has the counts that it was made of, and its ranges nest.
-pub fn nested_counts()
+/// The nested list has the counts that it was made of, so it is the nested list of its own, and no other one with its
+/// root has these counts.
+pub fn nested_list()
     ensures counts { ItCounts }
-    ensures nests { ItIsWellNested }
-{}
-
-/// Of a start, an end, a root count and the counts at the offsets there is one nested list.
-pub fn one_nested_list()
-    ensures one { CountsDetermineIt }
     ensures own { ItIsNested }
     ensures no_other { TwoAreOne }
 {}

@@ -6,20 +6,19 @@ ghost use Rattle.cov_steps.specs.Runs.{count_in, counted};
 ghost use Rattle.cov_normal.specs.NestedLaws.{IsNested};
 ghost use Rattle.cov_normal.specs.Read.{HasRead};
 
-use crate::list::{counts_of, report_of};
 use crate::nesting::Nesting;
-use cov_model::{Items, Range, Steps};
+use cov_model::{FunctionReport, Items, Range, Steps, Text};
 use cov_ranges::{CheckFault, check_ranges};
 use cov_steps::Runs;
 use std::alloc::{AllocError, Global};
 use std::marker::Brand;
 use std::sync::ledger::{Blank, Ledger};
 
-/// The nested normal list of a root and its counts: the root with the count `root`, then the ranges inside it. Inside a
+/// The normal list of a root and its counts, which is nested: the root with the count `root`, then the ranges inside it. Inside a
 /// range, one begins at the first offset with another count than the range's, and goes up to the last offset with that
 /// count before the range's own comes again; what is left on both sides is told in the same way. The runs are those of
 /// this start and end, in UTF-16 units, and are gone through once, with a stack of the ranges that may go on.
-pub fn nested(
+pub fn normal(
     alloc: Global,
     start: u32,
     end: u32,
@@ -53,19 +52,19 @@ fn nesting_of<L: Ledger>(
     Ok(nesting)
 }
 
-/// Whether a list of ranges is the nested normal list of its own root and innermost counts, whose root ends no sooner
+/// Whether a list of ranges is the normal list of its own root and innermost counts, whose root ends no sooner
 /// than it starts. The error is want of memory.
-pub fn is_nested(alloc: Global, ranges: &[Range]) -> Result<bool, AllocError>
+pub fn is_normal(alloc: Global, ranges: &[Range]) -> Result<bool, AllocError>
     ensures { IfOk result (λ is. IsTrue is ↔ IsNested ranges.now) }
 {
     match ranges {
         [] => Ok(false),
-        [root, rest @ ..] => is_nested_under(alloc, *root, rest, ranges),
+        [root, rest @ ..] => is_normal_under(alloc, *root, rest, ranges),
     }
 }
 
-// Whether ranges, which are a root and those behind it, are the nested normal list of their own counts.
-fn is_nested_under(
+// Whether ranges, which are a root and those behind it, are the normal list of their own counts.
+fn is_normal_under(
     alloc: Global,
     root: Range,
     rest: &[Range],
@@ -81,7 +80,7 @@ fn is_nested_under(
     Ok(are_one(list.as_slice(), ranges))
 }
 
-// The nested normal list of the counts of ranges that nest, which are a root and those behind it.
+// The normal list of the counts of ranges that nest, which are a root and those behind it.
 fn list_of(
     alloc: Global,
     root: Range,
@@ -93,7 +92,7 @@ fn list_of(
     ensures { IfOk result (λ list. list ≡ nested root.start root.end root.count (inner_count ranges.now)) }
 {
     let runs = counts_of(alloc, ranges)?;
-    nested(alloc, root.start, root.end, root.count, &runs)
+    normal(alloc, root.start, root.end, root.count, &runs)
 }
 
 // Whether ranges nest.
@@ -114,11 +113,31 @@ fn are_one(a: &[Range], b: &[Range]) -> bool
     a == b
 }
 
-/// The runs of a nested normal list: at each offset of its root the innermost count, as `Runs::of` gives them of a
-/// report with these ranges. The list is one that `is_nested` finds.
-pub fn runs_of_nested(alloc: Global, ranges: &[Range]) -> Result<Runs, AllocError>
+/// The runs of a normal list: at each offset of its root the innermost count, as `Runs::of` gives them of a
+/// report with these ranges. The list is one that `is_normal` finds. The error is want of memory.
+pub fn runs_of(alloc: Global, ranges: &[Range]) -> Result<Runs, AllocError>
     requires { IsNested ranges.now }
     ensures { IfOk result (λ runs. runs ≡ counted ranges.now) }
 {
     counts_of(alloc, ranges)
+}
+
+// The runs of ranges that nest.
+fn counts_of(alloc: Global, ranges: &[Range]) -> Result<Runs, AllocError>
+    requires { range_fault ranges.now ≡ None }
+    ensures { IfOk result (λ runs. runs ≡ counted ranges.now) }
+{
+    let report = report_of(alloc, ranges)?;
+    Runs::of(alloc, &report)
+}
+
+// A report with these ranges.
+fn report_of(alloc: Global, ranges: &[Range]) -> Result<FunctionReport, AllocError>
+    ensures { IfOk result (λ report. report.ranges ≡ ranges.now) }
+{
+    Ok(FunctionReport {
+        name: Text::from_text(alloc, "")?,
+        block: true,
+        ranges: Items::from_slice(alloc, ranges)?,
+    })
 }

@@ -5,7 +5,7 @@ ghost use Rattle.cov_normal.specs.Read.{HasRead, Reads, height_at, height_told, 
 
 use cov_model::Range;
 use std::alloc::{AllocError, Global};
-use std::collections::HashMap;
+use std::collections::BTreeMap;
 
 // The ranges of one root, each ahead of those inside it, as far as its runs were read.
 #[derive(Drop)]
@@ -14,7 +14,7 @@ pub(crate) struct Nesting {
     // The places in `ranges` of those that may go on, the root's first and each inside the one before it.
     stack: Vec<usize>,
     // For each count that came, where in `stack` a range with it was put last.
-    heights: HashMap<u64, usize>,
+    heights: BTreeMap<u64, usize>,
 }
 
 impl Nesting {
@@ -30,7 +30,7 @@ impl Nesting {
         })?;
         let mut stack = Vec::new(alloc);
         stack.push(0)?;
-        let mut heights = HashMap::new(alloc);
+        let mut heights = BTreeMap::new(alloc);
         heights.insert(count, 0)?;
         Ok(Nesting {
             ranges,

@@ -1,4 +1,4 @@
-use Rattle.cov_normal.proofs.list.normal.Given as goal
+use Rattle.cov_normal.proofs.flat_list.flat.Given as goal
 
 -- the ledger of a counter that was just made
 abbrev pub ghosts-listed : goal.ghosts-listed

@@ -4,7 +4,7 @@ use Rattle.cov_model.specs.Nesting.{range_fault, inner_count}
 use Rattle.cov_model.specs.Nested.{nested}
 use Rattle.cov_normal.specs.NestedLaws.{IsNested}
 use Rattle.cov_normal.proofs.Counting.{is-own, nested-faultless}
-use Rattle.cov_normal.proofs.nested_list.is_nested_under.Goals as goal
+use Rattle.cov_normal.proofs.nested_list.is_normal_under.Goals as goal
 
 pub returns-then-not-branch : goal.returns-then-not-branch
 returns-then-not-branch c = (λ e. absurd cc, λ h. subst IsTrue c.if-not-branch.true (c.in_ok-nest.ensures.1 (nested-faultless c.args.ranges.now h)))

@@ -1,7 +1,7 @@
 use Rattle.std.proofs.Common.{◌≡◌, subst}
 use Rattle.std.specs.Prelude.{IfOk}
 use Rattle.cov_normal.proofs.One.{flat-runs}
-use Rattle.cov_normal.proofs.list.normal.Goals as goal
+use Rattle.cov_normal.proofs.flat_list.flat.Goals as goal
 
 pub returns : goal.returns
 returns c =

@@ -1,5 +1,5 @@
 use Rattle.cov_normal.proofs.One.{there_is_one, there_is_no_other}
-use Rattle.cov_normal.proofs.laws.one_normal_list.Goals as goal
+use Rattle.cov_normal.proofs.laws.flat_list.Goals as goal
 
 pub returns-clause-one : goal.returns-clause-one
 returns-clause-one c = there_is_one

@@ -1,8 +1,8 @@
 use Rattle.std.proofs.Common.{◌∷◌, [], ◌++◌, sym, ap, ◌∙◌}
 use Rattle.cov_normal.specs.Parts.{counts_otherwise}
 use Rattle.cov_normal.proofs.Steps.{filter-kept, filter-left}
-use Rattle.cov_normal.proofs.list.listed.Goals as goal
-use Rattle.cov_normal.proofs.list.listed.Goals.{then-is_told+in_ok-push-2, else-is_told}
+use Rattle.cov_normal.proofs.flat_list.listed.Goals as goal
+use Rattle.cov_normal.proofs.flat_list.listed.Goals.{then-is_told+in_ok-push-2, else-is_told}
 
 pub loop-i-preserved : goal.loop-i-preserved
 loop-i-preserved g c =

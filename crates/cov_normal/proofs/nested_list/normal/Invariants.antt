@@ -1,4 +1,4 @@
-use Rattle.cov_normal.proofs.nested_list.nested.Given as goal
+use Rattle.cov_normal.proofs.nested_list.normal.Given as goal
 
 -- the ledger of a counter that was just made
 abbrev pub ghosts-nesting_of : goal.ghosts-nesting_of

@@ -1,6 +1,6 @@
 use Rattle.std.proofs.Common.{◌≡◌, ◌∷◌, take}
 use Rattle.cov_normal.specs.Parts.{told}
-use Rattle.cov_normal.proofs.list.listed.Given as goal
+use Rattle.cov_normal.proofs.flat_list.listed.Given as goal
 
 -- the root and what is told of the runs so far
 abbrev pub invariant-loop-i : goal.invariant-loop-i
