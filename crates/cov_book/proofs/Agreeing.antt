@@ -1,12 +1,11 @@
 -- Lists of snapshots with the same sums have the same faults, the same file, and the same sums with what is added.
 use Rattle.std.proofs.Common.{◌≡◌, ℕ, zero, suc, ◌+◌, ◌-◌, ◌<◌, ◌≤◌, Bool, true, false, List, [], ◌∷◌, ◌++◌, map, refl, sym, ap, ◌∙◌, arith, inl, inr}
-use Rattle.std.specs.Prelude.{Some, option_map, cond, min, nat_le, nat_lt, ◌||◌, ◌&&◌, ◌^◌, filter, filter_map, flat_map, find, sum_by, not, ◌==◌}
+use Rattle.std.specs.Prelude.{Some, option_map, cond, min, nat_le, nat_lt, ◌||◌, ◌&&◌, ◌^◌, filter, filter_map, flat_map, find, sum_by}
 use Rattle.std.specs.List.{AllByRecursion, list_any, list_all}
 use Rattle.std.proofs.lemmas.Bool.{cases_lt}
 use Rattle.std.proofs.lemmas.Grind.{flat_map-append}
 use Rattle.std.proofs.lemmas.List.Folds.{list_any-append}
 use Rattle.cov_model.specs.declared.report.FunctionReport.{FunctionReport}
-use Rattle.cov_model.specs.declared.report.Range.{Range}
 use Rattle.cov_model.specs.declared.snapshot.Entry.{Entry}
 use Rattle.cov_model.specs.declared.snapshot.Snapshot.{Snapshot}
 use Rattle.cov_model.specs.declared.sums.Key.{Key}
@@ -17,8 +16,11 @@ use Rattle.cov_text.specs.Listing.{inserted, counted, offsets, text_cmp, same_te
 use Rattle.cov_model.specs.Nesting.{inner_count}
 use Rattle.cov_text.specs.Listing.{limit}
 use Rattle.cov_model.specs.Sums.{fits, sum_fault, sums, sum_at, passes_limit, points, urls, keys, urls_in_order, keys_in_order, file_order, key_of, same_key, is_of, reports, root, total, flag, root_count}
-use Rattle.cov_model.specs.Normal.{grown, runs_over, maximal_runs, flat, range}
-use Rattle.cov_model.specs.File.{merged_report, merged_entry, scripts, file}
+use Rattle.cov_model.specs.declared.report.ListForm.{ListForm}
+use Rattle.cov_model.specs.declared.report.ListForm.TheVariants.{Nested}
+use Rattle.cov_model.specs.Forms.{list_in}
+use Rattle.cov_model.specs.File.{report_in, entry_in, scripts_in, file_in}
+use Rattle.cov_normal.proofs.Forms.{counts_determine_it}
 use Rattle.cov_model.specs.Held.{FunctionSums, Held, sums_of, held_of}
 use Rattle.cov_model.proofs.Grows.{sum_at-append}
 use Rattle.cov_book.specs.Laws.{ComeToOne}
@@ -179,38 +181,27 @@ agree-both one other more rest a b =
 
 -- ---- the same scripts
 
-runs-same : (n s : ℕ) (f g : ℕ → ℕ) → ((o : ℕ) → s ≤ o → o < s + n → f o ≡ g o) → runs_over s n f ≡ runs_over s n g
-runs-same zero s f g h = refl
-runs-same (suc n) s f g h =
-    ap (λ c. grown s c (runs_over (suc s) n f)) (h s (omega arith) (omega arith))
-    ∙ ap (grown s (g s)) (runs-same n (suc s) f g (λ o low high. h o (omega arith) (omega arith)))
-
-pub flat-same : (start end count : ℕ) (f g : ℕ → ℕ) → ((o : ℕ) → start ≤ o → o < end → f o ≡ g o) → flat start end count f ≡ flat start end count g
-unfolding flat maximal_runs
-flat-same s e c f g h =
-    ap (λ rs. range s e c ∷ filter (λ (run : Range). not (run.count == c)) rs) (runs-same (e - s) s f g (λ o low high. h o low (omega arith)))
-
-report-same : (one other : List Snapshot) → Agree one other → (key : Key) → merged_report one key ≡ merged_report other key
-report-same one other same key =
-    let ranges : flat key.start key.end (root one key) (total one key) ≡ flat key.start key.end (root other key) (total other key) =
-    ap (λ c. flat key.start key.end c (total one key)) (same.roots key) ∙ flat-same key.start key.end (root other key) (total one key) (total other key) (same.totals key) in
+report-same : (form : ListForm) (one other : List Snapshot) → Agree one other → (key : Key) → report_in form one key ≡ report_in form other key
+report-same form one other same key =
+    let ranges : list_in form key.start key.end (root one key) (total one key) ≡ list_in form key.start key.end (root other key) (total other key) =
+    ap (λ c. list_in form key.start key.end c (total one key)) (same.roots key) ∙ counts_determine_it form key.start key.end (root other key) (total one key) (total other key) (same.totals key) in
     (λ i. record { name = key.name; block = same.flags key i; ranges = ranges i })
 
 pub map-each : {A B : Type 0} (f g : A → B) → ((x : A) → f x ≡ g x) → (xs : List A) → map f xs ≡ map g xs
 map-each f g h [] = refl
 map-each f g h (x ∷ xs) = ap (λ y. y ∷ map f xs) (h x) ∙ ap (λ ys. g x ∷ ys) (map-each f g h xs)
 
-entry-same : (one other : List Snapshot) → Agree one other → (url : List ℕ) → merged_entry one url ≡ merged_entry other url
-entry-same one other same url =
+entry-same : (form : ListForm) (one other : List Snapshot) → Agree one other → (url : List ℕ) → entry_in form one url ≡ entry_in form other url
+entry-same form one other same url =
     let of_url : Key → Bool = λ key. same_text key.url url in
-    let functions : map (merged_report one) (filter of_url (keys_in_order one)) ≡ map (merged_report other) (filter of_url (keys_in_order other)) =
-    map-each (merged_report one) (merged_report other) (report-same one other same) (filter of_url (keys_in_order one)) ∙ ap (λ ks. map (merged_report other) (filter of_url ks)) same.keys in
+    let functions : map (report_in form one) (filter of_url (keys_in_order one)) ≡ map (report_in form other) (filter of_url (keys_in_order other)) =
+    map-each (report_in form one) (report_in form other) (report-same form one other same) (filter of_url (keys_in_order one)) ∙ ap (λ ks. map (report_in form other) (filter of_url ks)) same.keys in
     (λ i. record { url = url; functions = functions i })
 
-pub agree-scripts : (one other : List Snapshot) → Agree one other → scripts one ≡ scripts other
-unfolding scripts
-agree-scripts one other same =
-    map-each (merged_entry one) (merged_entry other) (entry-same one other same) (urls_in_order one) ∙ ap (map (merged_entry other)) same.urls
+pub agree-scripts : (form : ListForm) (one other : List Snapshot) → Agree one other → scripts_in form one ≡ scripts_in form other
+unfolding scripts_in
+agree-scripts form one other same =
+    map-each (entry_in form one) (entry_in form other) (entry-same form one other same) (urls_in_order one) ∙ ap (map (entry_in form other)) same.urls
 
 -- ---- the same faults
 
@@ -303,9 +294,9 @@ agree-held one other same =
 -- ---- one outcome
 
 pub come-to-one : (one other : List Snapshot) → Agree one other → ComeToOne one other
-unfolding file
+unfolding file_in
 come-to-one one other same = record {
   sums = agree-held one other same;
   fit = agree-fits one other same;
-  file = rw (agree-scripts one other same);
+  file = rw (agree-scripts Nested one other same);
 }

@@ -43,9 +43,6 @@ aligned-lookup (e ∷ es) k h = by (file_order k e.0) refl (aligned-lookup es k 
     by Equal is rest = subst (λ x. IsAligned (x, e.1)) (sym (file_exact k e.0 is)) h.0
     by Greater is rest = rest
 
-pub aligned-found : (known : List (Key × Sums)) (k : Key) (v : Sums) → AreAligned known → lookup (is_at (file_order k)) known ≡ Some v → IsAligned (k, v)
-aligned-found known k v h is = subst (IfAligned k) is (aligned-lookup known k h)
-
 pub aligned-report : (url : List ℕ) (f : FunctionReport) (k : Key) → key_of url f ≡ Some k → IsAligned (k, report_sums f)
 aligned-report url f k e = by f.ranges e
   where

@@ -5,18 +5,20 @@ use Rattle.std.specs.Bool.{Decides}
 use Rattle.std.specs.Cmp.{booleans_Decides}
 use Rattle.std.specs.Cmp.Lexicographic.{pointwise}
 use Rattle.std.proofs.lemmas.Bool.Decides.{Decides-eqb}
-use Rattle.std.proofs.lemmas.Slice.Eq.{slice_eq-Decides}
+use Rattle.std.proofs.lemmas.Slice.Eq.{bytes_eq-Decides, slice_eq-Decides}
 use mathlib.Core.Bool.{beq}
 use Rattle.cov_model.specs.declared.report.Range.{Range}
 use Rattle.cov_model.specs.declared.snapshot.Snapshot.{Snapshot}
 use Rattle.cov_model.specs.declared.sums.Key.{Key}
 use Rattle.cov_model.specs.Held.{Held, held_of, StandsFor}
-use Rattle.cov_model.specs.Sums.{same_key}
+use Rattle.cov_text.specs.Listing.{same_text}
 use Rattle.cov_steps.specs.Runs.{RunList}
 use Rattle.cov_book.specs.declared.sums.Sums.{Sums}
 use Rattle.cov_book.specs.Entries.{IsBook}
 use Rattle.cov_book.specs.Told.{same_range, same_runs, same_root, same_sums}
-use Rattle.cov_book.proofs.Ordered.{same-is, is-same}
+use Rattle.cov_book.specs.declared.scripts.Function.{Function}
+use Rattle.cov_book.specs.declared.scripts.Script.{Script}
+use Rattle.cov_book.specs.Same.{same_place, same_function, same_script}
 use Rattle.cov_book.proofs.Seen.{view, seen-once}
 
 and-both : (a b : Bool) → (a && b) ≡ true → (a ≡ true) × (b ≡ true)
@@ -81,8 +83,42 @@ sums-Decides a b = (to, from)
         (both-and (beq a.block b.block) (a.root == b.root) ((booleans_Decides a.block b.block).1 (ap (λ (s : Sums). s.block) e)) ((Decides-eqb a.root b.root).1 (ap (λ (s : Sums). s.root) e)))
         ((runs-Decides a.runs b.runs).1 (ap (λ (s : Sums). s.runs) e))
 
-pub key-Decides : (a b : Key) → Decides (same_key a b) (a ≡ b)
-key-Decides a b = (same-is a b, is-same a b)
+function-Decides : (a b : Function) → Decides (same_function a b) (a ≡ b)
+function-Decides a b = (to, from)
+  where
+    to : same_function a b ≡ true → a ≡ b
+    to e =
+        let p = and-both (same_place a b) (same_sums a.sums b.sums) e in
+        let q = and-both (a.start == b.start) ((a.end == b.end) && same_text a.name b.name) p.0 in
+        let r = and-both (a.end == b.end) (same_text a.name b.name) q.1 in
+        let start = (Decides-eqb a.start b.start).0 q.0 in
+        let end = (Decides-eqb a.end b.end).0 r.0 in
+        let name = (bytes_eq-Decides a.name b.name).0 r.1 in
+        let sums = (sums-Decides a.sums b.sums).0 p.1 in
+        (λ i. record { start = start i; end = end i; name = name i; sums = sums i })
+
+    from : a ≡ b → same_function a b ≡ true
+    from e =
+        both-and (same_place a b) (same_sums a.sums b.sums)
+        (both-and (a.start == b.start) ((a.end == b.end) && same_text a.name b.name) ((Decides-eqb a.start b.start).1 (ap (λ (f : Function). f.start) e))
+        (both-and (a.end == b.end) (same_text a.name b.name) ((Decides-eqb a.end b.end).1 (ap (λ (f : Function). f.end) e)) ((bytes_eq-Decides a.name b.name).1 (ap (λ (f : Function). f.name) e))))
+        ((sums-Decides a.sums b.sums).1 (ap (λ (f : Function). f.sums) e))
+
+pub script-Decides : (a b : Script) → Decides (same_script a b) (a ≡ b)
+script-Decides a b = (to, from)
+  where
+    lists : Decides (pointwise same_function a.functions b.functions) (a.functions ≡ b.functions)
+    lists = slice_eq-Decides function-Decides a.functions b.functions (pointwise same_function a.functions b.functions) refl
+
+    to : same_script a b ≡ true → a ≡ b
+    to e =
+        let p = and-both (same_text a.url b.url) (pointwise same_function a.functions b.functions) e in
+        let url = (bytes_eq-Decides a.url b.url).0 p.0 in
+        let functions = lists.0 p.1 in
+        (λ i. record { url = url i; functions = functions i })
+
+    from : a ≡ b → same_script a b ≡ true
+    from e = both-and (same_text a.url b.url) (pointwise same_function a.functions b.functions) ((bytes_eq-Decides a.url b.url).1 (ap (λ (s : Script). s.url) e)) (lists.1 (ap (λ (s : Script). s.functions) e))
 
 -- what tells that urls and entries are the same tells that the books are
 pub books-Decide : (urls others : List (List ℕ)) (entries more : List (Key × Sums)) (one other : Held) → IsBook urls entries → IsBook others more

@@ -1,5 +1,5 @@
 -- The least key of which a sum passes the limit, with one report more.
-use Rattle.std.proofs.Common.{◌≡◌, ℕ, ◌≤◌, Bool, true, false, List, [], ◌∷◌, ◌++◌, refl, sym, ap, ◌∙◌, subst, arith}
+use Rattle.std.proofs.Common.{◌≡◌, ℕ, ◌+◌, ◌≤◌, length, Bool, true, false, List, [], ◌∷◌, ◌++◌, refl, sym, ap, ◌∙◌, subst, arith}
 use Rattle.std.specs.Prelude.{Option, None, Some, cond, find, not, ◌&&◌, ◌||◌, option_map, nat_lt, sum_by}
 use Rattle.std.specs.List.{AllByRecursion, list_all, list_any}
 use Rattle.std.specs.List.Sorted.{IsStrictlySortedBy}
@@ -7,8 +7,7 @@ use Rattle.std.specs.declared.cmp.Ordering.{Ordering}
 use Rattle.std.specs.declared.cmp.Ordering.TheVariants.{Less, Equal, Greater}
 use Rattle.std.specs.Ordering.{is_eq, is_lt, ordering_reverse}
 use Rattle.std.specs.Map.{lookup}
-use Rattle.std.specs.Option.{option_or}
-use Rattle.std.specs.BTreeMap.{BTreeMap, get, insert_entry, is_at}
+use Rattle.std.specs.BTreeMap.{insert_entry, is_at}
 use Rattle.std.proofs.lemmas.Bool.{le-ltb}
 use Rattle.std.proofs.lemmas.Bool.Decides.{nat_tests}
 use Rattle.std.proofs.lemmas.Cmp.{tied_itself}
@@ -25,8 +24,10 @@ use Rattle.cov_steps.proofs.Maximal.{count_in-maximal}
 use Rattle.cov_book.specs.declared.sums.Sums.{Sums}
 use Rattle.cov_book.specs.Counts.{weight, reports_in, passes, first_point, fault_with}
 use Rattle.cov_book.specs.Entries.{sums_at, entries_of}
-use Rattle.cov_book.specs.Prepared.{report_sums, summed, with_key, with_report, IsWithin, AreKept, AreWithin, ArePrepared, sums_now, with_entries}
+use Rattle.cov_book.specs.Spent.{for_report, own_runs, runs_at}
+use Rattle.cov_book.specs.Prepared.{report_runs, report_sums, runs_held, summed, with_key, with_report, IsWithin, AreKept, AreWithin, ArePrepared, sums_now, with_entries}
 use Rattle.cov_book.specs.Least.{comes_before, IfWithin, IsPastAt, IsLeastPast, IsLeastSoFar}
+use Rattle.cov_book.proofs.Costs.{report-cost, report-grows}
 use Rattle.cov_book.proofs.Finding.{first_sum, fault-is, both-is, sum-is}
 use Rattle.cov_book.proofs.Having.{absent}
 use Rattle.cov_book.proofs.Keyed.{found, is-at, entries-more}
@@ -92,19 +93,19 @@ still-past : (all : List (Key × Sums)) (k : Key) (added : Sums) (least : Option
 still-past all k added None past = tt
 still-past all k added (Some c) past = λ h. past (less-at all k added c h)
 
-pub least-start : (functions changed : BTreeMap Key Sums) → AreKept functions.entries → changed.entries ≡ [] → IsLeastSoFar functions.entries functions changed None
-least-start functions changed kept empty = record {
-  known = functions.entries;
-  prepared = record { kept = kept; now = λ key. sym (ap (λ es. option_or (lookup (is_at (file_order key)) es) (get file_order functions key)) empty) };
+pub least-start : (entries : List (Key × Sums)) → AreKept entries → IsLeastSoFar entries (λ key. lookup (is_at (file_order key)) entries) [] None
+least-start entries kept = record {
+  known = entries;
+  prepared = record { kept = kept; now = λ key. refl };
   same = λ q front. refl;
   past = tt;
 }
 
-pub least-none : (all : List (Key × Sums)) (functions changed : BTreeMap Key Sums) (least : Option Key) (url : List ℕ) (f : FunctionReport)
+pub least-none : (all : List (Key × Sums)) (functions : Key → Option Sums) (changed : List (Key × Sums)) (least : Option Key) (url : List ℕ) (f : FunctionReport)
     → IsLeastSoFar all functions changed least → key_of url f ≡ None → IsLeastSoFar (with_report all url f) functions changed least
 least-none all functions changed least url f before none = subst (λ o. IsLeastSoFar (with_key all f o) functions changed least) (sym none) before
 
-pub least-skipped : (all : List (Key × Sums)) (functions changed : BTreeMap Key Sums) (least : Option Key) (url : List ℕ) (f : FunctionReport) (k : Key)
+pub least-skipped : (all : List (Key × Sums)) (functions : Key → Option Sums) (changed : List (Key × Sums)) (least : Option Key) (url : List ℕ) (f : FunctionReport) (k : Key)
     → IsLeastSoFar all functions changed least → key_of url f ≡ Some k → comes_before k least ≡ false → IsLeastSoFar (with_report all url f) functions changed least
 least-skipped all functions changed least url f k before named behind =
     subst (λ o. IsLeastSoFar (with_key all f o) functions changed least) (sym named) (record {
@@ -114,10 +115,10 @@ least-skipped all functions changed least url f k before named behind =
       past = still-past all k (report_sums f) least before.past;
     })
 
-pub least-added : (all : List (Key × Sums)) (functions changed next : BTreeMap Key Sums) (least : Option Key) (url : List ℕ) (f : FunctionReport) (k : Key) (v : Sums)
+pub least-added : (all : List (Key × Sums)) (functions : Key → Option Sums) (changed next : List (Key × Sums)) (least : Option Key) (url : List ℕ) (f : FunctionReport) (k : Key) (v : Sums)
     → IsLeastSoFar all functions changed least → key_of url f ≡ Some k → comes_before k least ≡ true
     → IsWithin v → v ≡ summed (sums_now functions changed k) (report_sums f)
-    → ((q : Key) → get file_order next q ≡ cond (is_at (file_order k) q) (Some v) (get file_order changed q))
+    → ((q : Key) → lookup (is_at (file_order q)) next ≡ cond (is_at (file_order k) q) (Some v) (lookup (is_at (file_order q)) changed))
     → IsLeastSoFar (with_report all url f) functions next least
 least-added all functions changed next least url f k v before named front within is put =
     subst (λ o. IsLeastSoFar (with_key all f o) functions next least) (sym named) (record {
@@ -132,7 +133,7 @@ least-added all functions changed next least url f k v before named front within
       past = still-past all k (report_sums f) least before.past;
     })
 
-pub least-found : (all : List (Key × Sums)) (functions changed : BTreeMap Key Sums) (least : Option Key) (url : List ℕ) (f : FunctionReport) (k : Key)
+pub least-found : (all : List (Key × Sums)) (functions : Key → Option Sums) (changed : List (Key × Sums)) (least : Option Key) (url : List ℕ) (f : FunctionReport) (k : Key)
     → IsLeastSoFar all functions changed least → key_of url f ≡ Some k → comes_before k least ≡ true
     → (IsWithin (summed (sums_now functions changed k) (report_sums f)) → ⊥) → IsLeastSoFar (with_report all url f) functions changed (Some k)
 least-found all functions changed least url f k before named front past =
@@ -149,7 +150,7 @@ least-found all functions changed least url f k before named front past =
           past (subst (λ o. IsWithin (summed o (report_sums f))) is (subst IfWithin own h));
     })
 
-lookup-within : (es : List (Key × Sums)) (k : Key) → AreWithin es → IfWithin (lookup (is_at (file_order k)) es)
+pub lookup-within : (es : List (Key × Sums)) (k : Key) → AreWithin es → IfWithin (lookup (is_at (file_order k)) es)
 lookup-within [] k h = tt
 lookup-within (e ∷ es) k h =
     let rest = lookup-within es k h.1 in
@@ -158,7 +159,7 @@ lookup-within (e ∷ es) k h =
       | false ↦ rest
     ]
 
-pub least-done : (all : List (Key × Sums)) (functions changed : BTreeMap Key Sums) (least : Option Key) → IsLeastSoFar all functions changed least → IsLeastPast all least
+pub least-done : (all : List (Key × Sums)) (functions : Key → Option Sums) (changed : List (Key × Sums)) (least : Option Key) → IsLeastSoFar all functions changed least → IsLeastPast all least
 least-done all functions changed least so_far = record {
   below = λ q front. subst IfWithin (sym (so_far.same q front)) (lookup-within so_far.known q so_far.prepared.kept.within);
   past = so_far.past;
@@ -265,21 +266,6 @@ first-is-least held snapshot c at (k ∷ ks) sorts there none some = by (file_or
         let wrong : true ≡ false = sym there ∙ never in
         absurd cc
 
--- where no key passes the limit there is no fault
-pub least-none-fault : (held : List Snapshot) (snapshot : Snapshot) (entries : List (Key × Sums)) → entries ≡ entries_of held → fits held ≡ true
-    → IsLeastPast (with_entries entries snapshot) None → sum_fault held snapshot ≡ None
-least-none-fault held snapshot entries are fit least = fault-is held snapshot fit ∙ each (keys_in_order (held ++ snapshot ∷ []))
-  where
-    all : with_entries entries snapshot ≡ entries_of (held ++ snapshot ∷ [])
-    all = ap (λ es. with_entries es snapshot) are ∙ entries-more held snapshot
-
-    each : (ks : List Key) → first_sum held snapshot ks ≡ None
-    each [] = refl
-    each (k ∷ ks) =
-        ap (λ o. or_else (option_map (fault_with held snapshot k) o) (first_sum held snapshot ks))
-        (none-first held snapshot k (subst (λ es. IfWithin (lookup (is_at (file_order k)) es)) all (least.below k refl)))
-        ∙ each ks
-
 -- the fault is that of the least key past the limit
 pub least-fault : (held : List Snapshot) (snapshot : Snapshot) (entries : List (Key × Sums)) (c : Key) → entries ≡ entries_of held → fits held ≡ true
     → IsLeastPast (with_entries entries snapshot) (Some c) → sum_fault held snapshot ≡ option_map (fault_with held snapshot c) (first_point held snapshot c (points c))
@@ -298,3 +284,23 @@ least-fault held snapshot entries c are fit least =
     by all some (Some at) e =
         first-is-least held snapshot c at (keys_in_order (held ++ snapshot ∷ [])) (in_order-sorted file_order file_total (keys (held ++ snapshot ∷ []))) some.0
         (λ q front. none-first held snapshot q (subst (λ es. IfWithin (lookup (is_at (file_order q)) es)) all (least.below q front))) e
+
+-- ---- what one report costs, where no sum passes the limit
+
+found-same : (all : List (Key × Sums)) (functions : Key → Option Sums) (changed : List (Key × Sums)) (least : Option Key) → IsLeastSoFar all functions changed least → least ≡ None
+    → (q : Key) → lookup (is_at (file_order q)) all ≡ sums_now functions changed q
+found-same all functions changed least so_far none q = so_far.same q (ap (comes_before q) none) ∙ so_far.prepared.now q
+
+pub report-spent : (all : List (Key × Sums)) (functions : Key → Option Sums) (changed : List (Key × Sums)) (least : Option Key) (url : List ℕ) (f : FunctionReport) (k : Key) (bound : Key → ℕ) (old new : ℕ) (o : Option Sums)
+    → IsLeastSoFar all functions changed least → least ≡ None → key_of url f ≡ Some k → o ≡ sums_now functions changed k → new ≤ old + (runs_held o + report_runs f)
+    → ((key : Key) → runs_at all key + own_runs key url f ≤ bound key) → new ≤ old + for_report bound url f
+report-spent all functions changed least url f k bound old new o so_far none named is cost within =
+    report-cost all (sums_now functions changed) url f k bound old new (found-same all functions changed least so_far none k) named (subst (λ x. new ≤ old + (runs_held x + report_runs f)) is cost) within
+
+pub report-grown : (all : List (Key × Sums)) (functions : Key → Option Sums) (changed : List (Key × Sums)) (least : Option Key) (url : List ℕ) (f : FunctionReport) (k : Key) (v : Sums) (o : Option Sums)
+    → IsLeastSoFar all functions changed least → least ≡ None → key_of url f ≡ Some k → o ≡ sums_now functions changed k → v ≡ summed o (report_sums f)
+    → length v.runs.runs ≤ runs_held o + report_runs f
+    → (key : Key) → runs_at (with_report all url f) key ≤ runs_at all key + own_runs key url f
+report-grown all functions changed least url f k v o so_far none named is value size =
+    report-grows all (sums_now functions changed) url f k v (found-same all functions changed least so_far none k) named
+    (value ∙ ap (λ x. summed x (report_sums f)) is) (subst (λ x. length v.runs.runs ≤ runs_held x + report_runs f) is size)

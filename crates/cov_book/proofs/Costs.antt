@@ -4,7 +4,7 @@ use Rattle.std.proofs.Math.Nat.{zero-mul, suc-mul}
 use Rattle.std.specs.Prelude.{Option, None, Some, cond, option_map, unwrap_or, sum_by, filter, filter_map, flat_map, ◌||◌}
 use Rattle.std.specs.List.{AllByRecursion, list_any, cons_option}
 use Rattle.std.specs.Map.{lookup}
-use Rattle.std.specs.BTreeMap.{BTreeMap, insert_entry, is_at}
+use Rattle.std.specs.BTreeMap.{insert_entry, is_at}
 use Rattle.std.proofs.lemmas.List.{append-nil}
 use Rattle.std.proofs.lemmas.List.Sums.{sum_by-cons}
 use Rattle.cov_model.specs.declared.report.FunctionReport.{FunctionReport}
@@ -19,7 +19,7 @@ use Rattle.cov_book.specs.Counts.{reports_in}
 use Rattle.cov_book.specs.Cost.{cost_of, held_runs, added_runs}
 use Rattle.cov_book.specs.Spent.{for_key, for_report, for_reports, for_entries, own_runs, own_all, runs_at}
 use Rattle.cov_book.specs.Entries.{sums_at, entries_of}
-use Rattle.cov_book.specs.Prepared.{report_runs, report_sums, runs_held, summed, sums_now, with_key, with_report, ArePrepared}
+use Rattle.cov_book.specs.Prepared.{report_runs, report_sums, runs_held, summed, with_key, with_report}
 use Rattle.cov_book.proofs.Finding.{sum-flat, sum-each, one-script}
 use Rattle.cov_book.proofs.Keyed.{found, is-at, of-key}
 use Rattle.cov_book.proofs.Ordered.{file_exact, any-in_order, is-same, same-is}
@@ -30,13 +30,13 @@ use Rattle.cov_book.proofs.Preparing.{found-put, at-flip}
 own-here : (url : List ℕ) (f : FunctionReport) (k : Key) → key_of url f ≡ Some k → own_runs k url f ≡ report_runs f
 own-here url f k named = ap (λ b. cond b (report_runs f) 0) (of-key k url f (Some k) named ∙ is-same k k refl)
 
-pub report-cost : (known : List (Key × Sums)) (functions changed : BTreeMap Key Sums) (url : List ℕ) (f : FunctionReport) (k : Key) (bound : Key → ℕ) (old new : ℕ)
-    → ArePrepared known functions changed → key_of url f ≡ Some k → new ≤ old + (runs_held (sums_now functions changed k) + report_runs f)
+pub report-cost : (known : List (Key × Sums)) (now : Key → Option Sums) (url : List ℕ) (f : FunctionReport) (k : Key) (bound : Key → ℕ) (old new : ℕ)
+    → lookup (is_at (file_order k)) known ≡ now k → key_of url f ≡ Some k → new ≤ old + (runs_held (now k) + report_runs f)
     → ((key : Key) → runs_at known key + own_runs key url f ≤ bound key) → new ≤ old + for_report bound url f
-report-cost known functions changed url f k bound old new before named cost within =
+report-cost known now url f k bound old new before named cost within =
     let most = within k in
     let own = own-here url f k named in
-    let held : runs_at known k ≡ runs_held (sums_now functions changed k) = ap runs_held (before.now k) in
+    let held : runs_at known k ≡ runs_held (now k) = ap runs_held before in
     let whole : for_report bound url f ≡ bound k = ap (for_key bound) named in
     omega (arith, cost)
 
@@ -48,22 +48,17 @@ grown-at known f k key v true here size =
     subst (λ q. length v.runs.runs ≤ runs_at known q + report_runs f) same size
 grown-at known f k key v false other size = omega arith
 
-pub report-grows : (known : List (Key × Sums)) (functions changed : BTreeMap Key Sums) (url : List ℕ) (f : FunctionReport) (k : Key) (v : Sums)
-    → ArePrepared known functions changed → key_of url f ≡ Some k → v ≡ summed (sums_now functions changed k) (report_sums f)
-    → length v.runs.runs ≤ runs_held (sums_now functions changed k) + report_runs f
+pub report-grows : (known : List (Key × Sums)) (now : Key → Option Sums) (url : List ℕ) (f : FunctionReport) (k : Key) (v : Sums)
+    → lookup (is_at (file_order k)) known ≡ now k → key_of url f ≡ Some k → v ≡ summed (now k) (report_sums f)
+    → length v.runs.runs ≤ runs_held (now k) + report_runs f
     → (key : Key) → runs_at (with_report known url f) key ≤ runs_at known key + own_runs key url f
-report-grows known functions changed url f k v before named is size key =
+report-grows known now url f k v before named is size key =
     let put : with_report known url f ≡ insert_entry file_order known k v =
-    ap (with_key known f) named ∙ ap (insert_entry file_order known k) (ap (λ o. summed o (report_sums f)) (before.now k) ∙ sym is) in
+    ap (with_key known f) named ∙ ap (insert_entry file_order known k) (ap (λ o. summed o (report_sums f)) before ∙ sym is) in
     let found = ap runs_held (ap (lookup (is_at (file_order key))) put ∙ found-put known k v key) in
     let own : own_runs key url f ≡ cond (is_at (file_order k) key) (report_runs f) 0 =
     ap (λ b. cond b (report_runs f) 0) (of-key key url f (Some k) named ∙ sym (is-at key k) ∙ sym (at-flip k key)) in
-    let here = grown-at known f k key v (is_at (file_order k) key) refl (subst (λ n. length v.runs.runs ≤ n + report_runs f) (sym (ap runs_held (before.now k))) size) in
-    omega arith
-
-pub none-cost : (url : List ℕ) (f : FunctionReport) (known : List (Key × Sums)) → key_of url f ≡ None → (key : Key) → runs_at (with_report known url f) key ≤ runs_at known key + own_runs key url f
-none-cost url f known none key =
-    let same : runs_at (with_report known url f) key ≡ runs_at known key = ap (λ o. runs_at (with_key known f o) key) none in
+    let here = grown-at known f k key v (is_at (file_order k) key) refl (subst (λ n. length v.runs.runs ≤ n + report_runs f) (sym (ap runs_held before)) size) in
     omega arith
 
 -- ---- reports one after the other

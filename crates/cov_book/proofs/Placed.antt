@@ -1,132 +1,75 @@
--- Keys that are put in or taken out one after the other.
-use Rattle.std.proofs.Common.{◌≡◌, ℕ, suc, zero, Bool, true, false, List, [], ◌∷◌, refl, sym, ap, ◌∙◌, subst, drop}
-use Rattle.std.specs.Prelude.{Option, None, Some, IsSome, cond, ◌||◌, ◌&&◌, not, filter, is_some}
+-- Functions put in their places.
+use Rattle.std.proofs.Common.{map, ◌≡◌, ℕ, ◌<◌, ◌≤◌, length, ◌++◌, arith, Bool, true, false, List, [], ◌∷◌, refl, sym, ap, ◌∙◌, subst}
+use Rattle.std.specs.Prelude.{Option, None, Some, option_map, slice_get, cond, is_some, Result, Ok, Err, OnOk, OnErr, is_ok, IsOk}
 use Rattle.std.specs.Option.{option_or}
-use Rattle.std.specs.List.{AllByRecursion, list_any}
+use Rattle.std.specs.List.{AllByRecursion}
 use Rattle.std.specs.List.Sorted.{IsStrictlySortedBy}
-use Rattle.std.specs.declared.cmp.Ordering.{Ordering}
 use Rattle.std.specs.declared.cmp.Ordering.TheVariants.{Less}
-use Rattle.std.specs.Ordering.{is_eq}
-use Rattle.std.specs.Cmp.{IsTotalOrder}
 use Rattle.std.specs.Map.{keys_of, lookup}
 use Rattle.std.specs.BTreeSet.{BTreeSet}
-use Rattle.std.specs.BTreeMap.{BTreeMap, get, is_at}
-use Rattle.std.proofs.lemmas.Cmp.{tied_itself, eq_by_cmp_equiv}
-use Rattle.std.proofs.lemmas.Map.Lookups.{CmpEqualImpliesEq, btree_set_from_contains}
-use Rattle.std.proofs.lemmas.Map.Made.{is_member-filter, is_some-lookup}
+use Rattle.std.specs.BTreeMap.{insert_entry, is_at}
+use Rattle.std.specs.Ordering.{is_eq}
+use Rattle.std.proofs.lemmas.Cmp.{tied_itself}
+use Rattle.std.proofs.lemmas.Map.Lookups.{btree_set_from_contains}
+use Rattle.std.proofs.lemmas.Map.Made.{is_some-lookup}
+use Rattle.cov_text.specs.Listing.{first_of}
+use Rattle.cov_model.specs.declared.report.FunctionReport.{FunctionReport}
+use Rattle.cov_model.specs.declared.report.Range.{Range}
 use Rattle.cov_model.specs.declared.sums.Key.{Key}
-use Rattle.cov_text.specs.Listing.{inserted, text_cmp}
-use Rattle.cov_model.specs.Sums.{file_order}
+use Rattle.cov_model.specs.Sums.{file_order, key_of, same_key}
+use Rattle.cov_book.proofs.Keyed.{is-at}
 use Rattle.cov_book.specs.declared.sums.Sums.{Sums}
-use Rattle.cov_book.specs.Prepared.{is_among}
-use Rattle.cov_book.proofs.Ordered.{at-equal, text_total, text_exact, file_total, file_exact, any-inserted, sorted-inserted}
+use Rattle.cov_book.specs.declared.scripts.Function.{Function}
+use Rattle.cov_book.specs.declared.scripts.Script.{Script}
+use Rattle.cov_book.specs.declared.placing.Update.{Update}
+use Rattle.cov_book.specs.Listed.{AreInOrder, bare, bare_key, own, own_list}
+use Rattle.cov_book.specs.Least.{IsLeastSoFar, comes_before}
+use Rattle.cov_model.specs.declared.snapshot.Entry.{Entry}
+use Rattle.cov_book.specs.Prepared.{ArePrepared, report_sums, summed, with_key, with_report, with_reports, with_entries}
+use Rattle.cov_book.specs.Stretching.{IfRooted}
+use Rattle.cov_book.specs.Told.{named}
+use Rattle.cov_book.specs.Prepared.{sums_now}
+use Rattle.cov_book.proofs.Aligned.{aligned-report}
+use Rattle.cov_book.proofs.Ordered.{at-equal, file_total, file_exact}
+use Rattle.cov_book.proofs.Preparing.{at-flip, sorted-put, found-put}
+use Rattle.cov_book.proofs.Searched.{insert-own, order-own}
+use Rattle.cov_book.proofs.Stretched.{rooted-lookup}
 
--- two keys are at each other
-pub flip : {A : Type 0} (cmp : A → A → Ordering) → IsTotalOrder cmp → CmpEqualImpliesEq cmp → (x y : A) → is_at (cmp x) y ≡ is_at (cmp y) x
-flip cmp total exact x y = by (is_at (cmp x) y) refl (is_at (cmp y) x) refl
+-- the key of a report by its root
+pub key-of-root : (url : List ℕ) (f : FunctionReport) (root : Range) → Some root ≡ slice_get f.ranges 0 → key_of url f ≡ Some (named url root.start root.end f.name)
+key-of-root url f root is = by f.ranges is
   where
-    same : is_at (cmp x) y ≡ true → is_at (cmp y) x ≡ true
-    same e = let here = exact x y (at-equal (cmp x y) e) in ap (λ z. is_at (cmp y) z) here ∙ ap (λ o. is_at (λ (z : _). o) y) (tied_itself total y)
+    by : (rs : List Range) → Some root ≡ slice_get rs 0 → option_map (λ (r : Range). named url r.start r.end f.name) (first_of rs) ≡ Some (named url root.start root.end f.name)
+    by [] e = absurd cc
+    by (r ∷ rest) e = let here : root ≡ r = cc in ap (λ (x : Range). Some (named url x.start x.end f.name)) (sym here)
 
-    back : is_at (cmp y) x ≡ true → is_at (cmp x) y ≡ true
-    back e = let here = exact y x (at-equal (cmp y x) e) in ap (λ z. is_at (cmp x) z) here ∙ ap (λ o. is_at (λ (z : _). o) x) (tied_itself total x)
+pub none-of-root : (url : List ℕ) (f : FunctionReport) → None ≡ slice_get f.ranges 0 → key_of url f ≡ None
+none-of-root url f is = by f.ranges is
+  where
+    by : (rs : List Range) → None ≡ slice_get rs 0 → option_map (λ (r : Range). named url r.start r.end f.name) (first_of rs) ≡ None
+    by [] e = refl
+    by (r ∷ rest) e = absurd cc
 
-    by : (a : Bool) → is_at (cmp x) y ≡ a → (b : Bool) → is_at (cmp y) x ≡ b → a ≡ b
-    by true e true f = refl
-    by true e false f = sym (same e) ∙ f
-    by false e true f = sym e ∙ back f
-    by false e false f = refl
+pub put-in-order : (g : Function) (old new : List Function) → AreInOrder old → bare new ≡ insert_entry file_order (bare old) (bare_key g) g.sums → AreInOrder new
+put-in-order g old new s is = subst (λ es. IsStrictlySortedBy file_order (keys_of es)) (sym is) (sorted-put (bare old) (bare_key g) g.sums s)
 
-or-left : (a b : Bool) → (a || b) ≡ false → (a ≡ false) × (b ≡ false)
-or-left true b e = absurd cc
-or-left false b e = (refl, e)
+-- what is found of a key when a function was put in
+pub put-found : (url : List ℕ) (g : Function) (k : Key) (v : Sums) (old new : List Function) → bare new ≡ insert_entry file_order (bare old) (bare_key g) g.sums
+    → (own url g).0 ≡ k → g.sums ≡ v
+    → (q : Key) → lookup (is_at (file_order q)) (own_list url new) ≡ cond (is_at (file_order k) q) (Some v) (lookup (is_at (file_order q)) (own_list url old))
+put-found url g k v old new put here value q =
+    ap (lookup (is_at (file_order q))) (insert-own url g old new put)
+    ∙ found-put (own_list url old) (own url g).0 g.sums q
+    ∙ (λ i. cond (is_at (file_order (here i)) q) (Some (value i)) (lookup (is_at (file_order q)) (own_list url old)))
 
-any-drop : {A : Type 0} (p : A → Bool) (xs : List A) (k : ℕ) → list_any p xs ≡ false → list_any p (drop k xs) ≡ false
-any-drop p [] zero e = e
-any-drop p [] (suc k) e = e
-any-drop p (x ∷ xs) zero e = e
-any-drop p (x ∷ xs) (suc k) e = any-drop p xs k (or-left (p x) (list_any p xs) e).1
-
--- what isn't among these isn't the next of them
-pub not-next : {A : Type 0} (cmp : A → A → Ordering) → IsTotalOrder cmp → CmpEqualImpliesEq cmp → (xs rest : List A) (k : ℕ) (x q : A)
-    → drop k xs ≡ x ∷ rest → is_among cmp xs q ≡ false → is_at (cmp x) q ≡ false
-not-next cmp total exact xs rest k x q more none =
-    flip cmp total exact x q ∙ (or-left (is_at (cmp q) x) (is_among cmp rest q) (sym (ap (λ ys. list_any (is_at (cmp q)) ys) more) ∙ any-drop (is_at (cmp q)) xs k none)).0
-
-taken : {B : Type 0} (a r : Bool) (none c : B) → cond r none (cond a none c) ≡ cond (a || r) none c
-taken true true none c = refl
-taken true false none c = refl
-taken false true none c = refl
-taken false false none c = refl
-
--- one key of those that are left was taken
-pub take-next : {A B : Type 0} (cmp : A → A → Ordering) → IsTotalOrder cmp → CmpEqualImpliesEq cmp → (xs rest : List A) (k : ℕ) (x q : A) (none old new : B)
-    → drop k xs ≡ x ∷ rest → new ≡ cond (is_at (cmp x) q) none old
-    → cond (is_among cmp rest q) none new ≡ cond (is_among cmp (drop k xs) q) none old
-take-next cmp total exact xs rest k x q none old new more is =
-    ap (cond (is_among cmp rest q) none) (is ∙ ap (λ b. cond b none old) (flip cmp total exact x q))
-    ∙ taken (is_at (cmp q) x) (is_among cmp rest q) none old
-    ∙ ap (λ ys. cond (is_among cmp ys q) none old) (sym more)
-
--- ---- sums that move from those changed to those held
-
-pub moved : {X : Type 0} (b : Bool) (v : X) (o old : Option X) → (b ≡ true → o ≡ Some v) → option_or (cond b None o) (cond b (Some v) old) ≡ option_or o old
-moved true v o old h = sym (ap (λ x. option_or x old) (h refl))
-moved false v o old h = refl
-
-pub stays : {X : Type 0} (b : Bool) (v : X) (o old : Option X) → (IsSome o → IsSome old) → IsSome (cond b None o) → IsSome (cond b (Some v) old)
-stays true v o old h is = refl
-stays false v o old h is = h is
-
--- ---- fresh keys
-
--- those of some keys that pass a test
-pub among-filter : {A : Type 0} (cmp : A → A → Ordering) → IsTotalOrder cmp → CmpEqualImpliesEq cmp → (p : A → Bool) (q : A) (xs : List A) → is_among cmp (filter p xs) q ≡ (is_among cmp xs q && p q)
-among-filter cmp total exact p q xs = is_member-filter (eq_by_cmp_equiv total) p q (λ x is. ap p (exact q x (at-equal (cmp q x) is))) xs
-
-or-both : (a c : Bool) → ((a && not c) || c) ≡ (a || c)
-or-both true true = refl
-or-both true false = refl
-or-both false c = refl
-
-pub and-not : (a c : Bool) → (a && not c) ≡ true → c ≡ false
-and-not true true e = absurd cc
-and-not true false e = refl
-and-not false c e = absurd cc
-
-pub not-and : (a c : Bool) → (a && not c) ≡ false → a ≡ true → c ≡ true
-not-and true true e is = refl
-not-and true false e is = absurd cc
-not-and false c e is = absurd cc
-
--- fresh urls put in are all urls put in
-pub fresh-enough : (known urls : List (List ℕ)) → IsStrictlySortedBy text_cmp known → inserted text_cmp known (filter (λ url. not (is_among text_cmp known url)) urls) ≡ inserted text_cmp known urls
-fresh-enough known urls sorts =
-    let fresh = filter (λ url. not (is_among text_cmp known url)) urls in
-    let s : BTreeSet (List ℕ) = record { keys = inserted text_cmp known fresh } in
-    let t : BTreeSet (List ℕ) = record { keys = inserted text_cmp known urls } in
-    btree_set_from_contains text_total s t (sorted-inserted text_cmp text_total fresh known sorts) (sorted-inserted text_cmp text_total urls known sorts)
-    (λ q.
-    any-inserted text_cmp text_exact (is_at (text_cmp q)) fresh known
-    ∙ ap (λ b. b || is_among text_cmp known q) (among-filter text_cmp text_total text_exact (λ url. not (is_among text_cmp known url)) q urls)
-    ∙ or-both (is_among text_cmp urls q) (is_among text_cmp known q)
-    ∙ sym (any-inserted text_cmp text_exact (is_at (text_cmp q)) urls known))
-    text_exact
-
-gone : (f c : Bool) → (f ≡ true → c ≡ false) → cond f false (f || c) ≡ c
-gone true c h = sym (h refl)
-gone false c h = refl
-
--- fresh urls put in and taken out again leave what was there
-pub urls-back : (known fresh : List (List ℕ)) (q : List ℕ) → (is_among text_cmp fresh q ≡ true → is_among text_cmp known q ≡ false)
-    → cond (is_among text_cmp fresh q) false (is_among text_cmp (inserted text_cmp known fresh) q) ≡ is_among text_cmp known q
-urls-back known fresh q h =
-    ap (cond (is_among text_cmp fresh q) false) (any-inserted text_cmp text_exact (is_at (text_cmp q)) fresh known)
-    ∙ gone (is_among text_cmp fresh q) (is_among text_cmp known q) h
-
-pub left-alone : (f new old : Bool) → (f ≡ true → old ≡ false) → (f ≡ false → new ≡ old) → cond f false new ≡ old
-left-alone true new old out same = sym (out refl)
-left-alone false new old out same = same refl
+-- what is known of a report's function goes over the report's root
+pub rooted-known : (all : List (Key × Sums)) (functions : Key → Option Sums) (changed : List (Key × Sums)) (least : Option Key) (url : List ℕ) (f : FunctionReport) (k : Key)
+    → IsLeastSoFar all functions changed least → key_of url f ≡ Some k → IfRooted (report_sums f).runs.start (report_sums f).runs.end (sums_now functions changed k)
+rooted-known all functions changed least url f k so_far is =
+    let over = aligned-report url f k is in
+    subst (λ o. IfRooted (report_sums f).runs.start (report_sums f).runs.end o) (so_far.prepared.now k)
+    (subst (λ n. IfRooted n (report_sums f).runs.end (lookup (is_at (file_order k)) so_far.known)) (sym over.0)
+    (subst (λ n. IfRooted k.start n (lookup (is_at (file_order k)) so_far.known)) (sym over.1) (rooted-lookup so_far.known k so_far.prepared.kept.aligned)))
 
 -- ---- maps with the same look-ups
 
@@ -179,37 +122,74 @@ same-entries es fs s t same =
     (btree_set_from_contains file_total one other s t (λ q. sym (is_some-lookup (is_at (file_order q)) es) ∙ ap is_some (same q) ∙ is_some-lookup (is_at (file_order q)) fs) file_exact)
     s same
 
-none-is : {X : Type 0} (o : Option X) → is_some o ≡ false → o ≡ None
-none-is None e = refl
-none-is (Some x) e = absurd cc
+-- ---- an addition that no sum stops
 
-module _ (functions changed : BTreeMap Key Sums) (fresh : List Key)
-    (are : fresh ≡ filter (λ key. not (is_some (get file_order functions key))) (keys_of changed.entries)) where
-  fresh-is : (q : Key) → is_among file_order fresh q ≡ (is_some (get file_order changed q) && not (is_some (get file_order functions q)))
-  fresh-is q =
-      ap (λ ks. is_among file_order ks q) are
-      ∙ among-filter file_order file_total file_exact (λ key. not (is_some (get file_order functions key))) q (keys_of changed.entries)
-      ∙ ap (λ b. b && not (is_some (get file_order functions q))) (sym (is_some-lookup (is_at (file_order q)) changed.entries))
+sorted-key : (known : List (Key × Sums)) (f : FunctionReport) (o : Option Key) → IsStrictlySortedBy file_order (keys_of known) → IsStrictlySortedBy file_order (keys_of (with_key known f o))
+sorted-key known f None s = s
+sorted-key known f (Some k) s = sorted-put known k (summed (lookup (is_at (file_order k)) known) (report_sums f)) s
 
-  -- what is left of the changed sums, after those of fresh keys moved, is there
-  pub left-there : (others left : BTreeMap Key Sums)
-      → ((q : Key) → is_among file_order fresh q ≡ false → get file_order others q ≡ get file_order functions q)
-      → ((q : Key) → get file_order left q ≡ cond (is_among file_order fresh q) None (get file_order changed q))
-      → (q : Key) → IsSome (get file_order left q) → IsSome (get file_order others q)
-  left-there others left same rest q is = by (is_among file_order fresh q) refl
-    where
-      by : (b : Bool) → is_among file_order fresh q ≡ b → IsSome (get file_order others q)
-      by true e = let none : false ≡ true = ap is_some (sym (rest q ∙ ap (λ b. cond b None (get file_order changed q)) e)) ∙ is in absurd cc
-      by false e =
-          let there : is_some (get file_order changed q) ≡ true = ap is_some (sym (rest q ∙ ap (λ b. cond b None (get file_order changed q)) e)) ∙ is in
-          ap is_some (same q e) ∙ not-and (is_some (get file_order changed q)) (is_some (get file_order functions q)) (sym (fresh-is q) ∙ e) there
+sorted-reports : (known : List (Key × Sums)) (url : List ℕ) (fs : List FunctionReport) → IsStrictlySortedBy file_order (keys_of known) → IsStrictlySortedBy file_order (keys_of (with_reports known url fs))
+sorted-reports known url [] s = s
+sorted-reports known url (f ∷ fs) s = sorted-reports (with_report known url f) url fs (sorted-key known f (key_of url f) s)
 
-  -- fresh keys put in and taken out again leave what was there
-  pub sums-back : (others : BTreeMap Key Sums)
-      → ((q : Key) → is_among file_order fresh q ≡ false → get file_order others q ≡ get file_order functions q)
-      → (q : Key) → cond (is_among file_order fresh q) None (get file_order others q) ≡ get file_order functions q
-  sums-back others same q = by (is_among file_order fresh q) refl
-    where
-      by : (b : Bool) → is_among file_order fresh q ≡ b → cond b None (get file_order others q) ≡ get file_order functions q
-      by true e = sym (none-is (get file_order functions q) (and-not (is_some (get file_order changed q)) (is_some (get file_order functions q)) (sym (fresh-is q) ∙ e)))
-      by false e = same q e
+sorted-entries : (known : List (Key × Sums)) (entries : List Entry) → IsStrictlySortedBy file_order (keys_of known) → IsStrictlySortedBy file_order (keys_of (with_entries known entries))
+sorted-entries known [] s = s
+sorted-entries known (entry ∷ entries) s = sorted-entries (with_reports known entry.url entry.functions) entries (sorted-reports known entry.url entry.functions s)
+
+pub least-prepared : (known : List (Key × Sums)) (entries : List Entry) (functions : Key → Option Sums) (changed : List (Key × Sums)) (least : Option Key) → IsStrictlySortedBy file_order (keys_of known) → least ≡ None
+    → IsLeastSoFar (with_entries known entries) functions changed least → ArePrepared (with_entries known entries) functions changed
+least-prepared known entries functions changed least s none so_far =
+    subst (λ es. ArePrepared es functions changed)
+    (sym (same-entries (with_entries known entries) so_far.known (sorted-entries known entries s) so_far.prepared.kept.sorted (λ q. so_far.same q (ap (comes_before q) none)))) so_far.prepared
+
+-- ---- one function more put in
+
+one-more : (first : Option Sums) (rest all : Option Sums) (v : Sums) (a b : Bool) → a ≡ b → (a ≡ true → rest ≡ None) → option_or (cond a (Some v) rest) all ≡ option_or rest (cond b (Some v) all)
+one-more first rest all v true true e none = sym (ap (λ o. option_or o (Some v)) (none refl))
+one-more first rest all v true false e none = let never : true ≡ false = e in absurd cc
+one-more first rest all v false true e none = let never : false ≡ true = e in absurd cc
+one-more first rest all v false false e none = refl
+
+own-sorted : (url : List ℕ) (f : Function) (fs : List Function) → AllByRecursion (λ k. file_order (bare_key f) k ≡ Less) (keys_of (bare fs)) → AllByRecursion (λ k. file_order (own url f).0 k ≡ Less) (keys_of (own_list url fs))
+own-sorted url f [] h = tt
+own-sorted url f (g ∷ gs) h = (order-own url f.start f.end f.name g ∙ h.0, own-sorted url f gs h.1)
+
+pub put-next : (url : List ℕ) (f : Function) (rest old new : List Function) → AreInOrder (f ∷ rest) → bare new ≡ insert_entry file_order (bare old) (bare_key f) f.sums
+    → (q : Key) → option_or (lookup (is_at (file_order q)) (own_list url rest)) (lookup (is_at (file_order q)) (own_list url new))
+    ≡ option_or (lookup (is_at (file_order q)) (own_list url (f ∷ rest))) (lookup (is_at (file_order q)) (own_list url old))
+unfolding IsStrictlySortedBy
+put-next url f rest old new sorts put q =
+    let found = put-found url f (own url f).0 f.sums old new put refl refl q in
+    let left = lookup (is_at (file_order q)) (own_list url rest) in
+    let all = lookup (is_at (file_order q)) (own_list url old) in
+    ap (option_or left) found
+    ∙ sym (one-more left left all f.sums (is_at (file_order q) (own url f).0) (is_at (file_order (own url f).0) q) (at-flip q (own url f).0)
+    (λ here.
+    let same : q ≡ (own url f).0 = file_exact q (own url f).0 (at-equal (file_order q (own url f).0) here) in
+    ap (λ k. lookup (is_at (file_order k)) (own_list url rest)) same ∙ none-above (own url f).0 (own_list url rest) (own-sorted url f rest sorts.0)))
+
+pub rest-in-order : (f : Function) (rest : List Function) → AreInOrder (f ∷ rest) → AreInOrder rest
+unfolding IsStrictlySortedBy
+rest-in-order f rest s = s.1
+
+-- ---- calls that can't fail for want of room
+
+pub sure : {A E : Type 0} (r : Result A E) (P : Type 0) (cap len : ℕ) → OnErr r (cap ≤ len) → len < cap → OnOk r P → P
+sure (Ok x) P cap len full room h = h
+sure (Err e) P cap len full room h = absurd (omega (arith, full, room))
+
+pub took : {A E X : Type 0} (r : Result A E) (x a b : X) → IsOk r → x ≡ cond (is_ok r) a b → x ≡ a
+took (Ok y) x a b ok e = e
+took (Err y) x a b ok e = absurd cc
+
+pub none-left : {A : Type 0} (xs : List A) → length xs ≡ 0 → xs ≡ []
+none-left [] e = refl
+none-left (x ∷ xs) e = absurd (omega (arith, e))
+
+pub scripts-push : (us : List Update) (u : Update) (rest : List Script) → map (λ (x : Update). x.script) (us ++ u ∷ []) ++ rest ≡ map (λ (x : Update). x.script) us ++ u.script ∷ rest
+scripts-push [] u rest = refl
+scripts-push (x ∷ xs) u rest = ap (λ ss. x.script ∷ ss) (scripts-push xs u rest)
+
+pub lookup-same : (k : Key) (es : List (Key × Sums)) → lookup (is_at (file_order k)) es ≡ lookup (same_key k) es
+lookup-same k [] = refl
+lookup-same k (e ∷ es) = (λ i. cond (is-at k e.0 i) (Some e.1) (lookup-same k es i))

@@ -8,20 +8,17 @@ use Rattle.std.specs.Ordering.{match_ordering, is_eq}
 use Rattle.std.specs.List.Sorted.{IsStrictlySortedBy}
 use Rattle.std.specs.Map.{lookup, keys_of}
 use Rattle.std.specs.BTreeSet.{insert_key}
-use Rattle.std.specs.BTreeMap.{BTreeMap, get, insert_entry, is_at}
+use Rattle.std.specs.BTreeMap.{insert_entry, is_at}
 use Rattle.std.proofs.lemmas.Cmp.{tied_itself}
 use Rattle.cov_model.specs.declared.report.FunctionReport.{FunctionReport}
-use Rattle.cov_model.specs.declared.snapshot.Entry.{Entry}
 use Rattle.cov_model.specs.declared.sums.Key.{Key}
 use Rattle.cov_model.specs.Sums.{key_of, file_order, same_key}
 use Rattle.cov_book.specs.declared.sums.Sums.{Sums}
-use Rattle.cov_book.specs.declared.sums.Stop.{Stop}
-use Rattle.cov_book.specs.declared.sums.Stop.TheVariants.{Past, NoMemory}
-use Rattle.cov_book.specs.Prepared.{report_sums, summed, with_key, with_report, with_reports, with_entries, IsAligned, IsWithin, AreWithin, IfPast, IfOnePast, ArePrepared, sums_now}
+use Rattle.cov_book.specs.Prepared.{report_sums, summed, with_key, with_report, IsAligned, IsWithin, ArePrepared, sums_now}
 use Rattle.cov_book.proofs.Aligned.{aligned-with, aligned-report}
 use Rattle.cov_book.proofs.Keyed.{is-at}
 use Rattle.cov_book.proofs.Ordered.{file_total, file_exact, sorted-insert, same-is, is-same}
-use Rattle.cov_book.proofs.Within.{within-insert, less-reports}
+use Rattle.cov_book.proofs.Within.{within-insert}
 
 -- ---- an entry that was put in
 
@@ -85,9 +82,9 @@ now-put : (b : Bool) (v : Sums) (o old : Option Sums) → cond b (Some v) (optio
 now-put true v o old = refl
 now-put false v o old = refl
 
-pub prepared-put : (known : List (Key × Sums)) (functions changed next : BTreeMap Key Sums) (k : Key) (added v : Sums)
+pub prepared-put : (known : List (Key × Sums)) (functions : Key → Option Sums) (changed next : List (Key × Sums)) (k : Key) (added v : Sums)
     → ArePrepared known functions changed → IsAligned (k, added) → IsWithin v → v ≡ summed (sums_now functions changed k) added
-    → ((q : Key) → get file_order next q ≡ cond (is_at (file_order k) q) (Some v) (get file_order changed q))
+    → ((q : Key) → lookup (is_at (file_order q)) next ≡ cond (is_at (file_order k) q) (Some v) (lookup (is_at (file_order q)) changed))
     → ArePrepared (insert_entry file_order known k (summed (lookup (is_at (file_order k)) known) added)) functions next
 prepared-put known functions changed next k added v before aligned within is put =
     let old = lookup (is_at (file_order k)) known in
@@ -102,44 +99,14 @@ prepared-put known functions changed next k added v before aligned within is put
           found-put known k (summed old added) q
           ∙ ap (λ x. cond (is_at (file_order k) q) (Some x) (lookup (is_at (file_order q)) known)) (sym value)
           ∙ ap (cond (is_at (file_order k) q) (Some v)) (before.now q)
-          ∙ now-put (is_at (file_order k) q) v (get file_order changed q) (get file_order functions q)
-          ∙ ap (λ o. option_or o (get file_order functions q)) (sym (put q));
+          ∙ now-put (is_at (file_order k) q) v (lookup (is_at (file_order q)) changed) (functions q)
+          ∙ ap (λ o. option_or o (functions q)) (sym (put q));
     }
 
-pub prepared-report : (known : List (Key × Sums)) (functions changed next : BTreeMap Key Sums) (url : List ℕ) (f : FunctionReport) (k : Key) (v : Sums)
+pub prepared-report : (known : List (Key × Sums)) (functions : Key → Option Sums) (changed next : List (Key × Sums)) (url : List ℕ) (f : FunctionReport) (k : Key) (v : Sums)
     → ArePrepared known functions changed → key_of url f ≡ Some k → IsWithin v → v ≡ summed (sums_now functions changed k) (report_sums f)
-    → ((q : Key) → get file_order next q ≡ cond (is_at (file_order k) q) (Some v) (get file_order changed q))
+    → ((q : Key) → lookup (is_at (file_order q)) next ≡ cond (is_at (file_order k) q) (Some v) (lookup (is_at (file_order q)) changed))
     → ArePrepared (with_report known url f) functions next
 prepared-report known functions changed next url f k v before named within is put =
     subst (λ o. ArePrepared (with_key known f o) functions next) (sym named)
     (prepared-put known functions changed next k (report_sums f) v before (aligned-report url f k named) within is put)
-
-pub prepared-none : (known : List (Key × Sums)) (functions changed : BTreeMap Key Sums) (url : List ℕ) (f : FunctionReport)
-    → ArePrepared known functions changed → key_of url f ≡ None → ArePrepared (with_report known url f) functions changed
-prepared-none known functions changed url f before none = subst (λ o. ArePrepared (with_key known f o) functions changed) (sym none) before
-
-within-value : (known : List (Key × Sums)) (k : Key) (v : Sums) → AreWithin (insert_entry file_order known k v) → IsWithin v
-within-value [] k v h = h.0
-within-value (e ∷ es) k v h = by (file_order k e.0) (within-value es k v) h
-  where
-    by : (o : Ordering) → (AreWithin (insert_entry file_order es k v) → IsWithin v)
-        → AreWithin (match_ordering o ((k, v) ∷ e ∷ es) ((e.0, v) ∷ es) (e ∷ insert_entry file_order es k v)) → IsWithin v
-    by Less rest h = h.0
-    by Equal rest h = h.0
-    by Greater rest h = rest h.1
-
-pub past-report : (stop : Stop) (known : List (Key × Sums)) (functions changed : BTreeMap Key Sums) (url : List ℕ) (f : FunctionReport) (k : Key)
-    → ArePrepared known functions changed → key_of url f ≡ Some k → IfPast stop (summed (sums_now functions changed k) (report_sums f))
-    → IfOnePast stop (with_report known url f)
-past-report Past known functions changed url f k before named past = λ within.
-    let put : AreWithin (insert_entry file_order known k (summed (lookup (is_at (file_order k)) known) (report_sums f))) = subst (λ o. AreWithin (with_key known f o)) named within in
-    past (subst (λ o. IsWithin (summed o (report_sums f))) (before.now k) (within-value known k _ put))
-past-report NoMemory known functions changed url f k before named past = tt
-
-pub past-reports : (stop : Stop) (known : List (Key × Sums)) (url : List ℕ) (fs : List FunctionReport) → IfOnePast stop known → IfOnePast stop (with_reports known url fs)
-past-reports Past known url fs past = λ within. past (less-reports known url fs within)
-past-reports NoMemory known url fs past = tt
-
-pub past-entries : (stop : Stop) (known : List (Key × Sums)) (entries : List Entry) → IfOnePast stop known → IfOnePast stop (with_entries known entries)
-past-entries stop known [] past = past
-past-entries stop known (entry ∷ entries) past = past-entries stop (with_reports known entry.url entry.functions) entries (past-reports stop known entry.url entry.functions past)

@@ -19,9 +19,9 @@ use Rattle.cov_model.specs.declared.sums.Key.{Key}
 use Rattle.cov_text.specs.Listing.{first_of, text_cmp, same_text}
 use Rattle.cov_model.specs.Nesting.{inner_count}
 use Rattle.cov_model.specs.Sums.{urls, keys, urls_in_order, keys_in_order, file_order, key_of, same_key, is_of, reports, root, total, flag, root_count}
-use Rattle.cov_model.specs.Normal.{flat}
-use Rattle.cov_model.specs.File.{merged_report, merged_entry, scripts}
-use Rattle.cov_model.proofs.Flat.{flat_counts}
+use Rattle.cov_model.specs.Nested.{nested}
+use Rattle.cov_model.specs.File.{merged_report, merged_entry, scripts, scripts_in}
+use Rattle.cov_normal.proofs.Counting.{it_counts}
 use Rattle.cov_book.specs.Laws.{MergesInParts}
 use Rattle.cov_book.proofs.Agreeing.{Agree, SameSums, no-sums, agree-both, come-to-one}
 use Rattle.cov_book.proofs.Having.{is_cons, absent, has-is}
@@ -59,7 +59,7 @@ abbrev under : List ℕ → Key → Key
 under url k = record { url = url; start = k.start; end = k.end; name = k.name }
 
 is_of-merged : (held : List Snapshot) (key : Key) (url : List ℕ) (k : Key) → is_of key url (merged_report held k) ≡ same_key key (under url k)
-unfolding flat
+unfolding nested
 is_of-merged held key url k = refl
 
 other-url : (held : List Snapshot) (key : Key) (url : List ℕ) → same_text key.url url ≡ false → (ks : List Key) → filter (is_of key url) (map (merged_report held) ks) ≡ []
@@ -161,7 +161,7 @@ both-there false true m h = refl
 both-there false false m h = refl
 
 merged-reports : (held : List Snapshot) (key : Key) → reports (scripts held ∷ []) key ≡ cond (list_any (same_key key) (keys_in_order held)) (merged_report held key ∷ []) []
-unfolding reports scripts
+unfolding reports scripts_in
 merged-reports held key =
     let us = urls_in_order held in
     let there = list_any (same_text key.url) us in
@@ -195,7 +195,7 @@ unfolding total
 total-is xs k o = refl
 
 pub merged-root : (held : List Snapshot) (key : Key) → root_count (merged_report held key) ≡ root held key
-unfolding flat
+unfolding nested
 merged-root held key = refl
 
 one-report : (held : List Snapshot) (key : Key) → reports (scripts held ∷ []) key ≡ merged_report held key ∷ [] → SameSums (scripts held ∷ []) held key
@@ -207,7 +207,7 @@ one-report held key e =
       count = root-is all key ∙ ap (sum_by root_count) e ∙ alone root_count merged ∙ merged-root held key;
       at = λ o low high.
           total-is all key o ∙ ap (sum_by (λ (f : FunctionReport). inner_count f.ranges o)) e ∙ alone (λ (f : FunctionReport). inner_count f.ranges o) merged
-          ∙ ap (λ n. unwrap_or n 0) (flat_counts key.start key.end (root held key) (total held key) o low high);
+          ∙ ap (λ n. unwrap_or n 0) (it_counts key.start key.end (root held key) (total held key) o low high);
     }
 
 merged-sums : (held : List Snapshot) (key : Key) (b : Bool) → list_any (same_key key) (keys_in_order held) ≡ b → SameSums (scripts held ∷ []) held key
@@ -219,7 +219,7 @@ map-urls held [] = refl
 map-urls held (u ∷ us) = ap (λ rest. u ∷ rest) (map-urls held us)
 
 merged-urls : (held : List Snapshot) → urls (scripts held ∷ []) ≡ urls_in_order held
-unfolding scripts
+unfolding scripts_in
 merged-urls held = append-nil (map (λ (entry : Entry). entry.url) (map (merged_entry held) (urls_in_order held))) ∙ map-urls held (urls_in_order held)
 
 cons-cond : {A : Type 0} (b : Bool) (x : A) → is_cons (cond b (x ∷ []) []) ≡ b

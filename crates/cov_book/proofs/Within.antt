@@ -1,13 +1,10 @@
 -- Sums within the limit.
-use Rattle.std.proofs.Common.{◌≡◌, ℕ, ◌+◌, ◌<◌, ◌≤◌, Bool, true, false, List, [], ◌∷◌, refl, sym, subst, arith}
-use Rattle.std.specs.Prelude.{Option, None, Some, option_map, unwrap_or, cond, filter}
+use Rattle.std.proofs.Common.{◌≡◌, ℕ, ◌+◌, ◌<◌, ◌≤◌, Bool, true, false, List, [], ◌∷◌, sym, subst, arith}
+use Rattle.std.specs.Prelude.{option_map, unwrap_or, cond, filter}
 use Rattle.std.specs.List.{AllByRecursion}
-use Rattle.std.specs.declared.cmp.Ordering.{Ordering}
 use Rattle.std.specs.declared.cmp.Ordering.TheVariants.{Less, Equal, Greater}
-use Rattle.std.specs.Ordering.{match_ordering, is_eq}
-use Rattle.std.specs.Map.{lookup}
-use Rattle.std.specs.BTreeMap.{insert_entry, is_at}
-use Rattle.cov_model.specs.declared.report.FunctionReport.{FunctionReport}
+use Rattle.std.specs.Ordering.{match_ordering}
+use Rattle.std.specs.BTreeMap.{insert_entry}
 use Rattle.cov_model.specs.declared.report.Range.{Range}
 use Rattle.cov_model.specs.declared.sums.Key.{Key}
 use Rattle.cov_text.specs.Listing.{last_of}
@@ -17,7 +14,7 @@ use Rattle.cov_model.specs.Sums.{file_order}
 use Rattle.cov_steps.specs.Runs.{RunList, count_in, counted, sum_of, sum_at, Fits, IsFirstPast}
 use Rattle.cov_steps.proofs.Maximal.{count_in-maximal}
 use Rattle.cov_book.specs.declared.sums.Sums.{Sums}
-use Rattle.cov_book.specs.Prepared.{report_sums, sum_two, summed, with_key, with_report, with_reports, IsWithin, AreWithin}
+use Rattle.cov_book.specs.Prepared.{sum_two, IsWithin, AreWithin}
 
 -- ---- the counts of a report
 
@@ -82,24 +79,3 @@ within-insert (e ∷ es) k v h new =
       | Equal ↦ (new, h.1)
       | Greater ↦ (h.0, rest)
     ]
-
--- sums that are within the limit with one report more are within it without
-less-key : (known : List (Key × Sums)) (k : Key) (added : Sums) → AreWithin (insert_entry file_order known k (summed (lookup (is_at (file_order k)) known) added)) → AreWithin known
-less-key [] k added h = tt
-less-key (e ∷ es) k added h = by (file_order k e.0) refl (less-key es k added) h
-  where
-    by : (o : Ordering) → file_order k e.0 ≡ o
-        → (AreWithin (insert_entry file_order es k (summed (lookup (is_at (file_order k)) es) added)) → AreWithin es)
-        → AreWithin (match_ordering o ((k, summed (cond (is_eq o) (Some e.1) (lookup (is_at (file_order k)) es)) added) ∷ e ∷ es) ((e.0, summed (cond (is_eq o) (Some e.1) (lookup (is_at (file_order k)) es)) added) ∷ es) (e ∷ insert_entry file_order es k (summed (cond (is_eq o) (Some e.1) (lookup (is_at (file_order k)) es)) added)))
-        → AreWithin (e ∷ es)
-    by Less is rest h = h.1
-    by Equal is rest h = (held-within e.1 added h.0, h.1)
-    by Greater is rest h = (h.0, rest h.1)
-
-less-report : (known : List (Key × Sums)) (f : FunctionReport) (o : Option Key) → AreWithin (with_key known f o) → AreWithin known
-less-report known f None h = h
-less-report known f (Some k) h = less-key known k (report_sums f) h
-
-pub less-reports : (known : List (Key × Sums)) (url : List ℕ) (fs : List FunctionReport) → AreWithin (with_reports known url fs) → AreWithin known
-less-reports known url [] h = h
-less-reports known url (f ∷ fs) h = less-report known f _ (less-reports (with_report known url f) url fs h)

@@ -2,7 +2,7 @@
 use Rattle.std.specs.Prelude.{◌≡◌, Bool, true, List, Option, None, Some}
 use Rattle.std.specs.Ordering.{is_lt}
 use Rattle.std.specs.Map.{lookup}
-use Rattle.std.specs.BTreeMap.{BTreeMap, is_at}
+use Rattle.std.specs.BTreeMap.{is_at}
 use Rattle.cov_model.specs.declared.sums.Key.{Key}
 use Rattle.cov_model.specs.Sums.{file_order}
 use Rattle.cov_book.specs.declared.sums.Sums.{Sums}
@@ -28,12 +28,12 @@ pub record IsLeastPast (all : List (Key × Sums)) (least : Option Key) : Type 0 
   pub past : IsPastAt all least
 
 -- with what was changed, the sums of the keys that come before the least are those of all
-pub record IsLeastSoFar (all : List (Key × Sums)) (functions changed : BTreeMap Key Sums) (least : Option Key) : Type 0 where
+pub record IsLeastSoFar (all : List (Key × Sums)) (functions : Key → Option Sums) (changed : List (Key × Sums)) (least : Option Key) : Type 0 where
   pub known : List (Key × Sums)
   pub prepared : ArePrepared known functions changed
   pub same : (q : Key) → comes_before q least ≡ true → lookup (is_at (file_order q)) all ≡ lookup (is_at (file_order q)) known
   pub past : IsPastAt all least
 
 -- there are sums of which this is so
-abbrev pub CanGoOnLeast : BTreeMap Key Sums → BTreeMap Key Sums → Option Key → Type 0
-CanGoOnLeast functions changed least = (all : List (Key × Sums)) × IsLeastSoFar all functions changed least
+abbrev pub CanGoOn : (Key → Option Sums) → List (Key × Sums) → Option Key → Type 0
+CanGoOn functions changed least = (all : List (Key × Sums)) × IsLeastSoFar all functions changed least

@@ -1,11 +1,13 @@
 -- How many things a list of snapshots comes to.
-use Rattle.std.specs.Prelude.{ℕ, ◌+◌, min, ◌==◌, List, length, sum_by, if◌then◌else◌}
+use Rattle.std.specs.Prelude.{ℕ, min, List, length, sum_by}
 use Rattle.cov_model.specs.declared.snapshot.Snapshot.{Snapshot}
 use Rattle.cov_model.specs.declared.sums.Key.{Key}
-use Rattle.cov_model.specs.Normal.{normal_list}
+use Rattle.cov_model.specs.declared.report.ListForm.TheVariants.{Nested}
+use Rattle.cov_model.specs.Forms.{normal_list}
 use Rattle.cov_text.specs.Listing.{limit}
 use Rattle.cov_model.specs.Sums.{root, total, urls_in_order, keys_in_order}
 use Rattle.cov_book.specs.Counts.{capped}
+use Rattle.cov_book.specs.Prepared.{told_ranges}
 use Rattle.cov_book.specs.declared.sums.Sums.{Sums}
 use Rattle.cov_book.specs.declared.numbers.Numbers.{Numbers}
 
@@ -22,12 +24,9 @@ unfoldable pub numbers_of : List Snapshot → Numbers
 numbers_of snapshots =
     kept (length (urls_in_order snapshots)) (length (keys_in_order snapshots)) (sum_by (range_count snapshots) (keys_in_order snapshots)) (sum_by (root snapshots) (keys_in_order snapshots))
 
--- how many runs of a function's sums have another count than the root
-abbrev pub runs_told : Sums → ℕ
-runs_told sums = sum_by (λ run. if run.count == sums.root then 0 else 1) sums.runs.runs
-
+-- how many ranges of a function are told
 abbrev pub ranges_told : Key × Sums → ℕ
-ranges_told e = 1 + runs_told e.1
+ranges_told e = length (told_ranges Nested e)
 
 abbrev pub root_told : Key × Sums → ℕ
 root_told e = e.1.root

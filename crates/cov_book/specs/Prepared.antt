@@ -1,11 +1,10 @@
 -- Words of private functions: sums with reports added one after the other, and how they are told.
 use Rattle.std.specs.Prelude.{◌≡◌, ℕ, ◌+◌, ◌≤◌, ◌<◌, ◌++◌, Bool, ◌||◌, nat_lt, filter, sum_by, length, List, [], ◌∷◌, map, Option, None, Some}
-use Rattle.std.specs.List.{AllByRecursion, list_any}
-use Rattle.std.specs.declared.cmp.Ordering.{Ordering}
+use Rattle.std.specs.List.{AllByRecursion}
 use Rattle.std.specs.List.Sorted.{IsStrictlySortedBy}
 use Rattle.std.specs.Map.{lookup, keys_of}
 use Rattle.std.specs.Option.{option_or}
-use Rattle.std.specs.BTreeMap.{BTreeMap, get, insert_entry, is_at}
+use Rattle.std.specs.BTreeMap.{insert_entry, is_at}
 use Rattle.cov_text.specs.Listing.{same_text}
 use Rattle.cov_model.specs.declared.report.FunctionReport.{FunctionReport}
 use Rattle.cov_model.specs.declared.snapshot.Entry.{Entry}
@@ -13,7 +12,9 @@ use Rattle.cov_model.specs.declared.snapshot.Snapshot.{Snapshot}
 use Rattle.cov_model.specs.declared.sums.Key.{Key}
 use Rattle.cov_model.specs.declared.sums.At.{At}
 use Rattle.cov_model.specs.declared.sums.At.TheVariants.{Root, Offset}
-use Rattle.cov_model.specs.Normal.{flat}
+use Rattle.cov_model.specs.declared.report.ListForm.{ListForm}
+use Rattle.cov_model.specs.declared.report.Range.{Range}
+use Rattle.cov_model.specs.Forms.{list_in}
 use Rattle.cov_text.specs.Listing.{limit}
 use Rattle.cov_model.specs.Sums.{root_count, key_of, file_order}
 use Rattle.cov_steps.specs.Runs.{count_in, counted, sum_of}
@@ -70,10 +71,6 @@ abbrev pub IfPast : Stop → Sums → Type 0
 IfPast Past sums = IsWithin sums → ⊥
 IfPast NoMemory sums = Unit {0}
 
-abbrev pub IfOnePast : Stop → List (Key × Sums) → Type 0
-IfOnePast Past entries = AreWithin entries → ⊥
-IfOnePast NoMemory entries = Unit {0}
-
 -- how many runs a report has, and how many the sums of a function
 abbrev pub report_runs : FunctionReport → ℕ
 report_runs f = length (counted f.ranges).runs
@@ -89,21 +86,13 @@ pub record AreKept (entries : List (Key × Sums)) : Type 0 where
   pub within : AreWithin entries
 
 -- the sums of a key: as they were changed, or else as they are held
-abbrev pub sums_now : BTreeMap Key Sums → BTreeMap Key Sums → Key → Option Sums
-sums_now functions changed key = option_or (get file_order changed key) (get file_order functions key)
-
--- an element is one of these
-abbrev pub is_among : {A : Type 0} → (A → A → Ordering) → List A → A → Bool
-is_among cmp xs x = list_any (is_at (cmp x)) xs
+abbrev pub sums_now : (Key → Option Sums) → List (Key × Sums) → Key → Option Sums
+sums_now functions changed key = option_or (lookup (is_at (file_order key)) changed) (functions key)
 
 -- with what was changed, the sums are these
-pub record ArePrepared (entries : List (Key × Sums)) (functions changed : BTreeMap Key Sums) : Type 0 where
+pub record ArePrepared (entries : List (Key × Sums)) (functions : Key → Option Sums) (changed : List (Key × Sums)) : Type 0 where
   pub kept : AreKept entries
   pub now : (key : Key) → lookup (is_at (file_order key)) entries ≡ sums_now functions changed key
-
--- with what was changed, the sums are some that are kept
-abbrev pub CanGoOn : BTreeMap Key Sums → BTreeMap Key Sums → Type 0
-CanGoOn functions changed = (entries : List (Key × Sums)) × ArePrepared entries functions changed
 
 -- what is held at a point
 abbrev pub held_weight : Option Sums → At → ℕ
@@ -115,12 +104,16 @@ held_weight (Some sums) (Offset o) = count_in sums.runs.runs o
 abbrev pub passes_over : Option Sums → List FunctionReport → At → Bool
 passes_over held new at = nat_lt limit (held_weight held at + sum_by (weight at) new)
 
--- a function as it is told
-abbrev pub told_report : Key × Sums → FunctionReport
-told_report e = record { name = e.0.name; block = e.1.block; ranges = flat e.0.start e.0.end e.1.root (count_in e.1.runs.runs) }
+-- the ranges of a function, as they are told
+abbrev pub told_ranges : ListForm → Key × Sums → List Range
+told_ranges form e = list_in form e.0.start e.0.end e.1.root (count_in e.1.runs.runs)
 
-abbrev pub told_entry : List (Key × Sums) → List ℕ → Entry
-told_entry entries url = record { url = url; functions = map told_report (filter (λ e. same_text e.0.url url) entries) }
+-- a function as it is told
+abbrev pub told_report : ListForm → Key × Sums → FunctionReport
+told_report form e = record { name = e.0.name; block = e.1.block; ranges = told_ranges form e }
+
+abbrev pub told_entry : ListForm → List (Key × Sums) → List ℕ → Entry
+told_entry form entries url = record { url = url; functions = map (told_report form) (filter (λ e. same_text e.0.url url) entries) }
 
 -- The sums of a list with those of a snapshot are the sums of both.
 abbrev pub SumsGrow : Type 0

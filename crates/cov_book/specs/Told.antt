@@ -1,22 +1,11 @@
 -- The functions of one url, and whether two functions have the same sums.
-use Rattle.std.specs.Prelude.{◌≡◌, ℕ, Bool, true, ◌&&◌, ◌==◌, List, [], ◌∷◌, if◌then◌else◌}
-use Rattle.std.specs.List.{AllByRecursion, list_any}
+use Rattle.std.specs.Prelude.{ℕ, Bool, ◌&&◌, ◌==◌, List}
 use Rattle.std.specs.Cmp.Lexicographic.{pointwise}
 use mathlib.Core.Bool.{beq}
-use Rattle.cov_text.specs.Listing.{same_text}
 use Rattle.cov_model.specs.declared.report.Range.{Range}
 use Rattle.cov_model.specs.declared.sums.Key.{Key}
 use Rattle.cov_steps.specs.Runs.{RunList}
 use Rattle.cov_book.specs.declared.sums.Sums.{Sums}
-
--- the entries at the front that are of this url
-abbrev pub front : List ℕ → List (Key × Sums) → List (Key × Sums)
-front url [] = []
-front url (e ∷ es) = if same_text e.0.url url then e ∷ front url es else []
-
--- the url of each function is one of these
-abbrev pub AreOfUrls : List (List ℕ) → List (Key × Sums) → Type 0
-AreOfUrls urls entries = AllByRecursion (λ e. list_any (same_text e.0.url) urls ≡ true) entries
 
 -- a key by its parts
 abbrev pub named : List ℕ → ℕ → ℕ → List ℕ → Key

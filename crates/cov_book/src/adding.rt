@@ -1,170 +1,289 @@
-//! The sums that a snapshot changes.
-ghost use Rattle.std.specs.Prelude.{◌≡◌, ℕ, ◌+◌, ◌≤◌, List, None, length, sum_by, IfOk, IfErr, OnOk};
+//! The sums that a snapshot changes, and the first function of which one passes the limit.
+ghost use Rattle.std.specs.Prelude.{◌≡◌, ℕ, ◌+◌, ◌≤◌, [], List, Option, None, length, sum_by, IfOk, IfErr, OnOk, option_copied};
+ghost use Rattle.std.specs.BTreeSet.{insert_key};
+ghost use Rattle.cov_text.specs.Listing.{in_order, text_cmp};
 ghost use Rattle.cov_book.specs.declared.sums.Sums.{Sums};
 ghost use Rattle.cov_model.specs.declared.sums.Key.{Key};
-ghost use Rattle.std.specs.Option.{option_copied};
 ghost use Rattle.cov_model.specs.Nesting.{range_fault, AreNested, AreReportsNested};
-ghost use Rattle.cov_model.specs.Sums.{key_of};
+ghost use Rattle.cov_model.specs.Sums.{file_order};
 ghost use Rattle.cov_book.specs.Spent.{for_entries, for_report, for_reports, own_all, own_runs, runs_at};
-ghost use Rattle.cov_book.specs.Prepared.{AreKept, ArePrepared, CanGoOn, IfPast, IfOnePast, IsWithin, report_runs, report_sums, runs_held, sums_now, summed, with_report, with_reports, with_entries};
+ghost use Rattle.cov_book.specs.Stretching.{IfRooted};
+ghost use Rattle.cov_book.specs.Prepared.{AreKept, ArePrepared, IfPast, IsWithin, report_runs, report_sums, runs_held, summed, sums_now, with_report, with_reports, with_entries};
+ghost use Rattle.cov_book.specs.Least.{comes_before, CanGoOn, IsLeastPast, IsLeastSoFar};
+ghost use Rattle.cov_book.specs.Listed.{all_listed, own_list, urls_in, held_in, AreInOrder, AreSorted, Knows, CanGoOnIn};
+ghost use Rattle.cov_book.specs.Told.{named};
+ghost use Rattle.cov_book.specs.Urls.{urls_of};
 
+use crate::looking::{functions_of, sums_among};
+use crate::scripts::{
+    Function, Script, place_of_script, put_function, set_functions, take_functions,
+};
 use crate::sums::{Stop, Sums, sum_with, sums_of};
 use cov_model::{Entry, FunctionReport, Key, Snapshot, Steps, Text};
 use std::alloc::{AllocError, Global};
-use std::collections::BTreeMap;
+use std::cmp::Ordering;
 use std::sync::ledger::Ledger;
 
-/// The sums of the functions of a snapshot: what is held of each, with the snapshot's reports.
-pub fn changed_by<L: Ledger>(
+/// What an addition of a snapshot would change.
+#[derive(Drop)]
+pub struct Changes {
+    /// The scripts of the snapshot, each with the functions of which there are reports, with their
+    /// sums then.
+    pub scripts: Vec<Script>,
+    /// The first function, in the order of the file, of which a sum passes the limit. The sums of
+    /// those behind it may lack reports.
+    pub past: Option<Key>,
+}
+
+/// The changes by a snapshot: what is held of each of its functions, with the snapshot's reports.
+pub fn changes_by<L: Ledger>(
     alloc: Global,
-    functions: &BTreeMap<Key, Sums>,
+    scripts: &[Script],
     snapshot: &Snapshot,
     steps: &mut Steps<L>,
-) -> Result<BTreeMap<Key, Sums>, Stop>
-    requires { AreKept functions.now.entries }
-    ensures sums { IfOk result (λ changed. ArePrepared (with_entries functions.now.entries
-        snapshot.now) functions.now changed) }
-    ensures past { IfErr result (λ stop. IfOnePast stop (with_entries functions.now.entries
-        snapshot.now)) }
+) -> Result<Changes, AllocError>
+    requires order { AreSorted scripts.now }
+    requires kept { AreKept (all_listed scripts.now) }
+    ensures order { IfOk result (λ changes. AreSorted changes.scripts.items) }
+    ensures urls { IfOk result (λ changes. urls_in changes.scripts.items
+        ≡ in_order text_cmp (urls_of snapshot.now)) }
+    ensures sums { IfOk result (λ changes. changes.past ≡ None → ArePrepared (with_entries
+        (all_listed scripts.now) snapshot.now) (held_in scripts.now) (all_listed
+        changes.scripts.items)) }
+    ensures past { IfOk result (λ changes. IsLeastPast (with_entries (all_listed scripts.now)
+        snapshot.now) changes.past) }
     ensures nested { AreNested snapshot.now }
-    ensures cost { OnOk result ((bound : Key → ℕ) → ((key : Key)
-        → runs_at functions.now.entries key + own_all key snapshot.now ≤ bound key)
+    ensures cost { IfOk result (λ changes. changes.past ≡ None → (bound : Key → ℕ) → ((key : Key)
+        → runs_at (all_listed scripts.now) key + own_all key snapshot.now ≤ bound key)
         → steps.new ≤ steps.old + for_entries bound snapshot.now) }
     ensures later { steps.old ≤ steps.new }
 {
-    let mut changed = BTreeMap::new(alloc);
+    let mut changed = Vec::new(alloc);
+    let mut past = None;
     for entry in snapshot.scripts() {
-        add_script(alloc, functions, &mut changed, entry, steps)?;
+        past = add_script(alloc, scripts, &mut changed, past, entry, steps)?;
     }
-    Ok(changed)
+    Ok(Changes {
+        scripts: changed,
+        past,
+    })
 }
 
 /// Adds each report of a script.
 fn add_script<L: Ledger>(
     alloc: Global,
-    functions: &BTreeMap<Key, Sums>,
-    changed: &mut BTreeMap<Key, Sums>,
+    scripts: &[Script],
+    changed: &mut Vec<Script>,
+    before: Option<Key>,
     entry: &Entry,
     steps: &mut Steps<L>,
-) -> Result<(), Stop>
-    requires prepared { CanGoOn functions.now changed.now }
+) -> Result<Option<Key>, AllocError>
+    requires held { AreSorted scripts.now }
+    requires changed { AreSorted changed.now.items }
+    requires so_far { CanGoOn (held_in scripts.now) (all_listed changed.now.items) before }
     requires nested { AreReportsNested entry.now.functions }
-    ensures sums { OnOk result ((known : List (Key × Sums))
-        → ArePrepared known functions.now changed.old
-        → ArePrepared (with_reports known entry.now.url entry.now.functions) functions.now
-        changed.new) }
-    ensures past { IfErr result (λ stop. (known : List (Key × Sums))
-        → ArePrepared known functions.now changed.old → IfOnePast stop (with_reports known
-        entry.now.url entry.now.functions)) }
-    ensures cost { OnOk result ((known : List (Key × Sums)) (bound : Key → ℕ)
-        → ArePrepared known functions.now changed.old → ((key : Key)
-        → runs_at known key + sum_by (own_runs key entry.now.url) entry.now.functions ≤ bound key)
+    ensures order { OnOk result (AreSorted changed.new.items) }
+    ensures urls { OnOk result (urls_in changed.new.items
+        ≡ insert_key text_cmp (urls_in changed.old.items) entry.now.url) }
+    ensures sums { IfOk result (λ now. (all : List (Key × Sums))
+        → IsLeastSoFar all (held_in scripts.now) (all_listed changed.old.items) before
+        → IsLeastSoFar (with_reports all entry.now.url entry.now.functions) (held_in scripts.now)
+        (all_listed changed.new.items) now) }
+    ensures cost { IfOk result (λ now. now ≡ None → (all : List (Key × Sums)) (bound : Key → ℕ)
+        → IsLeastSoFar all (held_in scripts.now) (all_listed changed.old.items) before → ((key : Key)
+        → runs_at all key + sum_by (own_runs key entry.now.url) entry.now.functions ≤ bound key)
         → steps.new ≤ steps.old + for_reports bound entry.now.url entry.now.functions) }
-    ensures grows { OnOk result ((known : List (Key × Sums))
-        → ArePrepared known functions.now changed.old → (key : Key)
-        → runs_at (with_reports known entry.now.url entry.now.functions) key ≤ runs_at known key
+    ensures grows { IfOk result (λ now. now ≡ None → (all : List (Key × Sums))
+        → IsLeastSoFar all (held_in scripts.now) (all_listed changed.old.items) before → (key : Key)
+        → runs_at (with_reports all entry.now.url entry.now.functions) key ≤ runs_at all key
         + sum_by (own_runs key entry.now.url) entry.now.functions) }
+    ensures stays { IfOk result (λ now. now ≡ None → before ≡ None) }
     ensures later { steps.old ≤ steps.new }
 {
-    for report in entry.functions.as_slice() {
-        add_report(alloc, functions, changed, &entry.url, report, steps)?;
-    }
-    Ok(())
+    let held = functions_of(scripts, entry.url.as_text());
+    let at = place_of_script(alloc, changed, &entry.url)?;
+    let mut functions = take_functions(alloc, changed, at);
+    let past = add_reports(alloc, held, &mut functions, before, entry, steps)?;
+    set_functions(changed, at, functions);
+    Ok(past)
 }
 
-/// Adds a report to the sums of its function.
+/// Adds each report of a script to the sums of its function.
+fn add_reports<L: Ledger>(
+    alloc: Global,
+    held: &[Function],
+    changed: &mut Vec<Function>,
+    before: Option<Key>,
+    entry: &Entry,
+    steps: &mut Steps<L>,
+) -> Result<Option<Key>, AllocError>
+    requires held { AreInOrder held.now }
+    requires changed { AreInOrder changed.now.items }
+    requires so_far { CanGoOnIn entry.now.url held.now changed.now.items before }
+    requires nested { AreReportsNested entry.now.functions }
+    ensures order { OnOk result (AreInOrder changed.new.items) }
+    ensures sums { IfOk result (λ now. (all : List (Key × Sums)) (functions : Key → Option Sums)
+        → Knows entry.now.url held.now functions
+        → IsLeastSoFar all functions (own_list entry.now.url changed.old.items) before
+        → IsLeastSoFar (with_reports all entry.now.url entry.now.functions) functions (own_list
+        entry.now.url changed.new.items) now) }
+    ensures cost { IfOk result (λ now. now ≡ None → (all : List (Key × Sums)) (functions : Key
+        → Option Sums) (bound : Key → ℕ) → Knows entry.now.url held.now functions
+        → IsLeastSoFar all functions (own_list entry.now.url changed.old.items) before → ((key : Key)
+        → runs_at all key + sum_by (own_runs key entry.now.url) entry.now.functions ≤ bound key)
+        → steps.new ≤ steps.old + for_reports bound entry.now.url entry.now.functions) }
+    ensures grows { IfOk result (λ now. now ≡ None → (all : List (Key × Sums)) (functions : Key
+        → Option Sums) → Knows entry.now.url held.now functions
+        → IsLeastSoFar all functions (own_list entry.now.url changed.old.items) before → (key : Key)
+        → runs_at (with_reports all entry.now.url entry.now.functions) key ≤ runs_at all key
+        + sum_by (own_runs key entry.now.url) entry.now.functions) }
+    ensures stays { IfOk result (λ now. now ≡ None → before ≡ None) }
+    ensures later { steps.old ≤ steps.new }
+{
+    let mut past = before;
+    for report in entry.functions.as_slice() {
+        past = add_report(alloc, held, changed, past, &entry.url, report, steps)?;
+    }
+    Ok(past)
+}
+
+/// Adds a report to the sums of its function, unless this doesn't come before the first one past
+/// the limit.
 fn add_report<L: Ledger>(
     alloc: Global,
-    functions: &BTreeMap<Key, Sums>,
-    changed: &mut BTreeMap<Key, Sums>,
+    held: &[Function],
+    changed: &mut Vec<Function>,
+    past: Option<Key>,
     url: &Text,
     report: &FunctionReport,
     steps: &mut Steps<L>,
-) -> Result<(), Stop>
-    requires prepared { CanGoOn functions.now changed.now }
+) -> Result<Option<Key>, AllocError>
+    requires held { AreInOrder held.now }
+    requires changed { AreInOrder changed.now.items }
+    requires so_far { CanGoOnIn url.now held.now changed.now.items past }
     requires nested { range_fault report.now.ranges ≡ None }
-    ensures sums { OnOk result ((known : List (Key × Sums))
-        → ArePrepared known functions.now changed.old → ArePrepared (with_report known url.now
-        report.now) functions.now changed.new) }
-    ensures past { IfErr result (λ stop. (known : List (Key × Sums))
-        → ArePrepared known functions.now changed.old → IfOnePast stop (with_report known url.now
-        report.now)) }
-    ensures cost { OnOk result ((known : List (Key × Sums)) (bound : Key → ℕ)
-        → ArePrepared known functions.now changed.old → ((key : Key)
-        → runs_at known key + own_runs key url.now report.now ≤ bound key)
+    ensures order { OnOk result (AreInOrder changed.new.items) }
+    ensures sums { IfOk result (λ now. (all : List (Key × Sums)) (functions : Key → Option Sums)
+        → Knows url.now held.now functions
+        → IsLeastSoFar all functions (own_list url.now changed.old.items) past
+        → IsLeastSoFar (with_report all url.now report.now) functions (own_list url.now
+        changed.new.items) now) }
+    ensures cost { IfOk result (λ now. now ≡ None → (all : List (Key × Sums)) (functions : Key
+        → Option Sums) (bound : Key → ℕ) → Knows url.now held.now functions
+        → IsLeastSoFar all functions (own_list url.now changed.old.items) past → ((key : Key)
+        → runs_at all key + own_runs key url.now report.now ≤ bound key)
         → steps.new ≤ steps.old + for_report bound url.now report.now) }
-    ensures grows { OnOk result ((known : List (Key × Sums))
-        → ArePrepared known functions.now changed.old → (key : Key)
-        → runs_at (with_report known url.now report.now) key ≤ runs_at known key
+    ensures grows { IfOk result (λ now. now ≡ None → (all : List (Key × Sums)) (functions : Key
+        → Option Sums) → Knows url.now held.now functions
+        → IsLeastSoFar all functions (own_list url.now changed.old.items) past → (key : Key)
+        → runs_at (with_report all url.now report.now) key ≤ runs_at all key
         + own_runs key url.now report.now) }
+    ensures stays { IfOk result (λ now. now ≡ None → past ≡ None) }
     ensures later { steps.old ≤ steps.new }
 {
-    let Some(key) = named(url, report)? else {
-        return Ok(());
+    let Some(root) = report.ranges.get(0) else {
+        return Ok(past);
     };
-    let sums = sums_with(alloc, functions, changed, &key, report, steps)?;
-    let Ok(_) = changed.insert(key, sums) else {
-        return Err(Stop::NoMemory);
-    };
-    Ok(())
+    let (start, end) = (root.start, root.end);
+    if !is_before(url, start, end, &report.name, &past) {
+        return Ok(past);
+    }
+    let before = sums_so_far(held, changed, start, end, report.name.as_text());
+    match sums_with(alloc, before, report, steps) {
+        Ok(sums) => {
+            let name = report.name.clone()?;
+            put_function(
+                changed,
+                Function {
+                    start,
+                    end,
+                    name,
+                    sums,
+                },
+            )?;
+            Ok(past)
+        }
+        Err(Stop::Past) => Ok(Some(key_named(url, start, end, &report.name)?)),
+        Err(Stop::NoMemory) => Err(AllocError),
+    }
+}
+
+/// A function's key.
+fn key_named(url: &Text, start: u32, end: u32, name: &Text) -> Result<Key, AllocError>
+    ensures { IfOk result (λ key. key ≡ named url.now start end name.now) }
+{
+    Ok(Key {
+        url: url.clone()?,
+        start,
+        end,
+        name: name.clone()?,
+    })
+}
+
+/// The sums of a function, as they were changed, or else as they are held.
+fn sums_so_far<'a>(
+    held: &'a [Function],
+    changed: &'a [Function],
+    start: u32,
+    end: u32,
+    name: &str,
+) -> Option<&'a Sums>
+    requires held { AreInOrder held.now }
+    requires changed { AreInOrder changed.now }
+    ensures { (url : List ℕ) (functions : Key → Option Sums) → Knows url held.now functions
+        → option_copied result ≡ sums_now functions (own_list url changed.now) (named url start end
+        name.now) }
+{
+    match sums_among(changed, start, end, name) {
+        Some(sums) => Some(sums),
+        None => sums_among(held, start, end, name),
+    }
 }
 
 /// The sums of a function with those of one more report.
-pub fn sums_with<L: Ledger>(
+fn sums_with<L: Ledger>(
     alloc: Global,
-    functions: &BTreeMap<Key, Sums>,
-    changed: &BTreeMap<Key, Sums>,
-    key: &Key,
+    before: Option<&Sums>,
     report: &FunctionReport,
     steps: &mut Steps<L>,
 ) -> Result<Sums, Stop>
-    requires prepared { CanGoOn functions.now changed.now }
     requires nested { range_fault report.now.ranges ≡ None }
-    requires starts { (report_sums report.now).runs.start ≡ key.now.start }
-    requires ends { (report_sums report.now).runs.end ≡ key.now.end }
+    requires rooted { IfRooted (report_sums report.now).runs.start
+        (report_sums report.now).runs.end (option_copied before) }
     ensures sums { IfOk result (λ sums. sums
-        ≡ summed (sums_now functions.now changed.now key.now) (report_sums report.now)) }
+        ≡ summed (option_copied before.entry) (report_sums report.now)) }
     ensures within { IfOk result IsWithin }
-    ensures past { IfErr result (λ stop. IfPast stop (summed (sums_now functions.now changed.now
-        key.now) (report_sums report.now))) }
+    ensures past { IfErr result (λ stop. IfPast stop (summed (option_copied before.entry)
+        (report_sums report.now))) }
     ensures cost { OnOk result (steps.new ≤ steps.old
-        + (runs_held (sums_now functions.now changed.now key.now) + report_runs report.now)) }
+        + (runs_held (option_copied before.entry) + report_runs report.now)) }
     ensures size { IfOk result (λ sums. length sums.runs.runs
-        ≤ runs_held (sums_now functions.now changed.now key.now) + report_runs report.now) }
+        ≤ runs_held (option_copied before.entry) + report_runs report.now) }
     ensures later { steps.old ≤ steps.new }
 {
     let added = sums_of(alloc, report)?;
-    match sums_so_far(functions, changed, key) {
+    match before {
         Some(held) => sum_with(alloc, held, &added, steps),
         None => Ok(added),
     }
 }
 
-/// The sums of a function, as they were changed, or else as they are held.
-fn sums_so_far<'a>(
-    functions: &'a BTreeMap<Key, Sums>,
-    changed: &'a BTreeMap<Key, Sums>,
-    key: &Key,
-) -> Option<&'a Sums>
-    ensures { option_copied result ≡ sums_now functions.now changed.now key.now }
+/// Whether a function comes before that one, if there is one.
+fn is_before(url: &Text, start: u32, end: u32, name: &Text, past: &Option<Key>) -> bool
+    ensures { result ≡ comes_before (named url.now start end name.now) past.now }
 {
-    match changed.get(key) {
-        Some(sums) => Some(sums),
-        None => functions.get(key),
+    match past {
+        Some(first) => order_to(url, start, end, name, first).is_lt(),
+        None => true,
     }
 }
 
-/// The key of a report.
-pub fn named(url: &Text, report: &FunctionReport) -> Result<Option<Key>, AllocError>
-    ensures { IfOk result (λ key. key ≡ key_of url.now report.now) }
+/// How a function stands to a key in the order of the file.
+fn order_to(url: &Text, start: u32, end: u32, name: &Text, key: &Key) -> Ordering
+    ensures { result ≡ file_order (named url.now start end name.now) key.now }
 {
-    let Some(root) = report.ranges.get(0) else {
-        return Ok(None);
-    };
-    Ok(Some(Key {
-        url: url.clone()?,
-        start: root.start,
-        end: root.end,
-        name: report.name.clone()?,
-    }))
+    url.cmp(&key.url)
+        .then(start.cmp(&key.start))
+        .then(key.end.cmp(&end))
+        .then(name.cmp(&key.name))
 }

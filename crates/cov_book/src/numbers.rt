@@ -1,13 +1,15 @@
 //! How many things a list of snapshots comes to.
-ghost use Rattle.std.specs.Prelude.{◌≡◌, ◌+◌, ◌<◌, min, cond, ◌==◌};
+ghost use Rattle.std.specs.Prelude.{◌≡◌, ◌+◌, [], length, min, sum_by, IfOk};
 ghost use Rattle.cov_text.specs.Listing.{limit};
-ghost use Rattle.cov_book.specs.Numbers.{numbers_told, runs_told};
+ghost use Rattle.cov_book.specs.Counts.{capped};
+ghost use Rattle.cov_book.specs.Listed.{all_listed, bare, own, urls_in};
+ghost use Rattle.cov_book.specs.Numbers.{numbers_told, ranges_told, root_told};
+ghost use Rattle.cov_book.specs.Prepared.{AreAligned, IsAligned};
 
-use crate::sums::Sums;
-use cov_model::{Key, Steps, Text};
-use std::collections::{BTreeMap, BTreeSet};
-use std::marker::Brand;
-use std::sync::ledger::{Blank, Ledger};
+use crate::merged::ranges_of;
+use crate::scripts::{Function, Script};
+use cov_model::ListForm;
+use std::alloc::{AllocError, Global};
 
 /// How many things a list of snapshots comes to. A number past the greatest one of its type is told
 /// as that.
@@ -23,51 +25,59 @@ pub struct Numbers {
     pub roots: u128,
 }
 
-/// The numbers of urls and functions. It takes no memory.
-pub fn numbers_in(urls: &BTreeSet<Text>, functions: &BTreeMap<Key, Sums>) -> Numbers
-    ensures { result ≡ numbers_told urls.now.keys functions.now.entries }
+/// The numbers of scripts and functions. The normal list of each function is made to be counted,
+/// one after the other.
+pub fn numbers_in(alloc: Global, scripts: &[Script]) -> Result<Numbers, AllocError>
+    requires { AreAligned (all_listed scripts.now) }
+    ensures { IfOk result (λ numbers. numbers
+        ≡ numbers_told (urls_in scripts.now) (all_listed scripts.now)) }
 {
-    let mut ranges = 0u64;
-    let mut roots = 0u128;
-    for entry in functions {
-        let (_, sums) = entry;
-        ranges = ranges.saturating_add(ranges_of(sums));
-        roots = roots.saturating_add(sums.root as u128);
+    let mut numbers = Numbers {
+        scripts: scripts.len() as u64,
+        functions: 0,
+        ranges: 0,
+        roots: 0,
+    };
+    for script in scripts {
+        numbers = with_functions(alloc, numbers, script.functions.as_slice())?;
     }
-    Numbers {
-        scripts: urls.len() as u64,
-        functions: functions.len() as u64,
+    Ok(numbers)
+}
+
+/// The numbers with those of more functions.
+fn with_functions(
+    alloc: Global,
+    before: Numbers,
+    functions: &[Function],
+) -> Result<Numbers, AllocError>
+    requires { AreAligned (bare functions.now) }
+    ensures scripts { IfOk result (λ numbers. numbers.scripts ≡ before.scripts) }
+    ensures functions { IfOk result (λ numbers. numbers.functions
+        ≡ min (before.functions + length functions.now) limit) }
+    ensures ranges { IfOk result (λ numbers. numbers.ranges
+        ≡ min (before.ranges + sum_by ranges_told (bare functions.now)) limit) }
+    ensures roots { IfOk result (λ numbers. numbers.roots
+        ≡ capped (before.roots + sum_by root_told (bare functions.now))) }
+{
+    let mut ranges = before.ranges;
+    let mut roots = before.roots;
+    for function in functions {
+        ranges = ranges.saturating_add(range_count(alloc, function)?);
+        roots = roots.saturating_add(function.sums.root as u128);
+    }
+    Ok(Numbers {
+        scripts: before.scripts,
+        functions: before.functions.saturating_add(functions.len() as u64),
         ranges,
         roots,
-    }
+    })
 }
 
-/// How many ranges the normal list of a function has: its root, and the runs of another count.
-fn ranges_of(sums: &Sums) -> u64
-    ensures { result ≡ min (1 + runs_told sums.now) limit }
+/// How many ranges the normal list of a function has, its root among them.
+fn range_count(alloc: Global, function: &Function) -> Result<u64, AllocError>
+    requires { IsAligned (own [] function.now) }
+    ensures { IfOk result (λ count. count ≡ ranges_told (own [] function.now)) }
 {
-    counted_ranges::<Brand>(sums, Blank::new(1))
-}
-
-// The same, with a counter of steps that nobody reads.
-fn counted_ranges<L: Ledger>(sums: &Sums, blank: Blank) -> u64
-    requires name { blank.name ≡ L.name }
-    requires parts { (blank.parts ≡ L.parts) × (0 < L.parts) }
-    ensures { result ≡ min (1 + runs_told sums.now) limit }
-{
-    let mut steps: Steps<L> = Steps::new(blank);
-    let count = sums.runs.len();
-    let mut ranges = 1u64;
-    for i in 0..count {
-        let run = sums.runs.get(i, &mut steps);
-        ranges = ranges.saturating_add(one_unless(run.count, sums.root));
-    }
-    ranges
-}
-
-// One, unless the two counts are the same.
-fn one_unless(count: u64, root: u64) -> u64
-    ensures { result ≡ cond (count == root) 0 1 }
-{
-    if count == root { 0 } else { 1 }
+    let ranges = ranges_of(alloc, ListForm::Nested, function)?;
+    Ok(ranges.len() as u64)
 }

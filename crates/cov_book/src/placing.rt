@@ -1,219 +1,125 @@
-//! Changes put in place: all of them or none.
-ghost use Rattle.std.specs.Prelude.{◌≡◌, ℕ, List, false, true, cond, filter, not, is_some, IsSome, Some, None, IfOk, OnOk, OnErr};
-ghost use Rattle.std.specs.BTreeMap as maps;
-ghost use Rattle.std.specs.BTreeSet as sets;
-ghost use Rattle.std.specs.Map.{keys_of};
-ghost use Rattle.std.specs.BTreeMap.{get, is_at};
-ghost use Rattle.std.specs.BTreeSet.{contains};
-ghost use Rattle.cov_text.specs.Listing.{inserted, text_cmp};
-ghost use Rattle.cov_model.specs.Sums.{file_order};
+//! Changes put in place, where all memory is taken before.
+ghost use Rattle.std.specs.Prelude.{◌≡◌, ◌+◌, ◌<◌, ◌≤◌, [], List, ℕ, false, map, length, IfOk, OnOk, OnErr};
+ghost use Rattle.std.specs.Option.{option_or};
+ghost use Rattle.std.specs.List.{AllByRecursion};
+ghost use Rattle.std.specs.Map.{lookup};
+ghost use Rattle.std.specs.BTreeMap.{is_at};
+ghost use Rattle.std.specs.BTreeSet.{insert_key};
+ghost use Rattle.std.specs.Vec.{vec_len, vec_capacity};
+ghost use Rattle.cov_text.specs.Listing.{inserted, same_text, text_cmp};
 ghost use Rattle.cov_model.specs.declared.sums.Key.{Key};
-ghost use Rattle.cov_book.specs.declared.sums.Sums.{Sums};
-ghost use Rattle.cov_book.specs.Prepared.{ArePrepared, is_among, sums_now};
-ghost use Rattle.cov_book.specs.Urls.{urls_of, with_urls};
+ghost use Rattle.cov_model.specs.Sums.{file_order};
+ghost use Rattle.cov_book.specs.Listed.{held_in, listed, of_url, own_list, urls_in, AreInOrder, AreSorted};
+ghost use Rattle.cov_book.specs.Room.{HasRoom};
 
-use crate::sums::Sums;
-use cov_model::{Key, Snapshot, Text};
+use crate::looking::{functions_of, place_of_url};
+use crate::scripts::{Function, Script, is_script_at, put_function, set_functions, take_functions};
 use std::alloc::{AllocError, Global};
-use std::collections::{BTreeMap, BTreeSet};
 
-/// Puts the urls of a snapshot and changed sums in place. Without memory nothing changes.
-pub fn put(
-    alloc: Global,
-    urls: &mut BTreeSet<Text>,
-    functions: &mut BTreeMap<Key, Sums>,
-    snapshot: &Snapshot,
-    changed: BTreeMap<Key, Sums>,
-) -> Result<(), AllocError>
-    requires urls { sets.IsOrdered text_cmp urls.now }
-    requires sums { maps.IsOrdered file_order functions.now }
-    ensures urls { OnOk result (urls.new.keys ≡ with_urls urls.old.keys snapshot.now) }
-    ensures sums { OnOk result ((entries : List (Key × Sums))
-        → ArePrepared entries functions.old changed → functions.new.entries ≡ entries) }
-    ensures urls_stay { OnErr result (urls.new.keys ≡ urls.old.keys) }
-    ensures sums_stay { OnErr result (functions.new.entries ≡ functions.old.entries) }
-{
-    let fresh = fresh_urls(alloc, urls, snapshot)?;
-    put_urls(urls, &fresh)?;
-    let Err(fault) = put_sums(alloc, functions, changed) else {
-        return Ok(());
-    };
-    remove_urls(urls, &fresh);
-    Err(fault)
+/// A script to put in place, and room for the functions that it then has.
+#[derive(Drop)]
+pub struct Update {
+    pub script: Script,
+    pub room: Vec<Function>,
 }
 
-/// The urls of a snapshot that aren't known.
-fn fresh_urls(
-    alloc: Global,
-    urls: &BTreeSet<Text>,
-    snapshot: &Snapshot,
-) -> Result<Vec<Text>, AllocError>
-    ensures { IfOk result (λ fresh. fresh.items ≡ filter
-        (λ url. not (contains text_cmp urls.now url)) (urls_of snapshot.now)) }
+/// Puts changed scripts in place: each of their functions in the place of the one of the same root
+/// and name, if there is one. Without memory nothing changes.
+pub fn put(alloc: Global, scripts: &mut Vec<Script>, changed: Vec<Script>) -> Result<(), AllocError>
+    requires order { AreSorted scripts.now.items }
+    requires changed { AreSorted changed.items }
+    ensures order { OnOk result (AreSorted scripts.new.items) }
+    ensures held { OnOk result ((key : Key) → held_in scripts.new.items key
+        ≡ option_or (held_in changed.items key) (held_in scripts.old.items key)) }
+    ensures urls { OnOk result (urls_in scripts.new.items
+        ≡ inserted text_cmp (urls_in scripts.old.items) (urls_in changed.items)) }
+    ensures err { OnErr result (scripts.new.items ≡ scripts.old.items) }
 {
-    let mut fresh = Vec::new(alloc);
-    for entry in snapshot.scripts() {
-        if !urls.contains(&entry.url) {
-            fresh.push(entry.url.clone()?)?;
-        }
-    }
-    Ok(fresh)
-}
-
-/// Puts fresh urls to those known: all of them or none.
-fn put_urls(urls: &mut BTreeSet<Text>, fresh: &[Text]) -> Result<(), AllocError>
-    requires ordered { sets.IsOrdered text_cmp urls.now }
-    requires fresh { (url : List ℕ) → is_among text_cmp fresh.now url ≡ true
-        → contains text_cmp urls.now url ≡ false }
-    ensures ordered { sets.IsOrdered text_cmp urls.new }
-    ensures ok { OnOk result (urls.new.keys ≡ inserted text_cmp urls.old.keys fresh.now) }
-    ensures err { OnErr result (urls.new.keys ≡ urls.old.keys) }
-{
-    let Err(fault) = insert_urls(urls, fresh) else {
-        return Ok(());
-    };
-    remove_urls(urls, fresh);
-    Err(fault)
-}
-
-/// Puts urls to those known, as far as memory goes.
-fn insert_urls(urls: &mut BTreeSet<Text>, fresh: &[Text]) -> Result<(), AllocError>
-    requires { sets.IsOrdered text_cmp urls.now }
-    ensures ordered { sets.IsOrdered text_cmp urls.new }
-    ensures ok { OnOk result (urls.new.keys ≡ inserted text_cmp urls.old.keys fresh.now) }
-    ensures others { (url : List ℕ) → is_among text_cmp fresh.now url ≡ false
-        → contains text_cmp urls.new url ≡ contains text_cmp urls.old url }
-{
-    for url in fresh {
-        urls.insert(url.clone()?)?;
+    let updates = updates_of(alloc, scripts, changed)?;
+    scripts.reserve(updates.len())?;
+    for update in updates {
+        put_script(alloc, scripts, update);
     }
     Ok(())
 }
 
-/// Takes urls away.
-fn remove_urls(urls: &mut BTreeSet<Text>, fresh: &[Text])
-    requires { sets.IsOrdered text_cmp urls.now }
-    ensures ordered { sets.IsOrdered text_cmp urls.new }
-    ensures gone { (url : List ℕ) → contains text_cmp urls.new url
-        ≡ cond (is_among text_cmp fresh.now url) false (contains text_cmp urls.old url) }
+/// The scripts, each with room for its functions and those held.
+fn updates_of(
+    alloc: Global,
+    scripts: &[Script],
+    changed: Vec<Script>,
+) -> Result<Vec<Update>, AllocError>
+    requires { AreSorted scripts.now }
+    ensures scripts { IfOk result (λ updates. map (λ u. u.script) updates.items ≡ changed.items) }
+    ensures room { IfOk result (λ updates. AllByRecursion (HasRoom scripts.now) updates.items) }
 {
-    for url in fresh {
-        urls.remove(url);
+    let mut updates = Vec::new(alloc);
+    for script in changed {
+        let room = room_for(alloc, scripts, &script)?;
+        updates.push(Update { script, room })?;
     }
+    Ok(updates)
 }
 
-/// Puts changed sums in place: all of them or none.
-fn put_sums(
-    alloc: Global,
-    functions: &mut BTreeMap<Key, Sums>,
-    mut changed: BTreeMap<Key, Sums>,
-) -> Result<(), AllocError>
-    requires { maps.IsOrdered file_order functions.now }
-    ensures ok { OnOk result ((entries : List (Key × Sums))
-        → ArePrepared entries functions.old changed → functions.new.entries ≡ entries) }
-    ensures err { OnErr result (functions.new.entries ≡ functions.old.entries) }
+/// Room for the functions of a script and those held of its url.
+fn room_for(alloc: Global, scripts: &[Script], script: &Script) -> Result<Vec<Function>, AllocError>
+    requires { AreSorted scripts.now }
+    ensures room { IfOk result (λ room. length (of_url script.now.url scripts.now)
+        + length script.now.functions ≤ vec_capacity room) }
+    ensures empty { IfOk result (λ room. room.items ≡ []) }
+    ensures len { IfOk result (λ room. vec_len room ≡ 0) }
 {
-    let fresh = fresh_keys(alloc, functions, &changed)?;
-    let Err(fault) = move_sums(functions, &mut changed, &fresh) else {
-        replace_sums(functions, changed);
-        return Ok(());
+    let held = functions_of(scripts, script.url.as_text());
+    let Some(count) = held.len().checked_add(script.functions.len()) else {
+        return Err(AllocError);
     };
-    remove_sums(functions, &fresh);
-    Err(fault)
+    Vec::with_capacity(alloc, count)
 }
 
-/// The keys of changed sums that aren't known.
-fn fresh_keys(
-    alloc: Global,
-    functions: &BTreeMap<Key, Sums>,
-    changed: &BTreeMap<Key, Sums>,
-) -> Result<Vec<Key>, AllocError>
-    ensures { IfOk result (λ fresh. fresh.items ≡ filter
-        (λ key. not (is_some (get file_order functions.now key))) (keys_of changed.now.entries)) }
+/// Puts a script in place. It takes no memory.
+fn put_script(alloc: Global, scripts: &mut Vec<Script>, update: Update)
+    requires order { AreSorted scripts.now.items }
+    requires functions { AreInOrder update.script.functions }
+    requires room { HasRoom scripts.now.items update }
+    requires place { vec_len scripts.now < vec_capacity scripts.now }
+    ensures order { AreSorted scripts.new.items }
+    ensures held { (key : Key) → held_in scripts.new.items key ≡ option_or (lookup (is_at (file_order
+        key)) (listed update.script)) (held_in scripts.old.items key) }
+    ensures urls { urls_in scripts.new.items
+        ≡ insert_key text_cmp (urls_in scripts.old.items) update.script.url }
+    ensures others { (u : List ℕ) → same_text update.script.url u ≡ false
+        → of_url u scripts.new.items ≡ of_url u scripts.old.items }
+    ensures len { vec_len scripts.new ≤ vec_len scripts.old + 1 }
+    ensures capacity { vec_capacity scripts.old ≤ vec_capacity scripts.new }
 {
-    let mut fresh = Vec::new(alloc);
-    for key in changed.keys() {
-        if !functions.contains_key(key) {
-            fresh.push(key.clone()?)?;
-        }
-    }
-    Ok(fresh)
-}
-
-/// Moves the sums of fresh keys, as far as memory goes.
-fn move_sums(
-    functions: &mut BTreeMap<Key, Sums>,
-    changed: &mut BTreeMap<Key, Sums>,
-    fresh: &[Key],
-) -> Result<(), AllocError>
-    requires { maps.IsOrdered file_order functions.now }
-    ensures ordered { maps.IsOrdered file_order functions.new }
-    ensures others { (key : Key) → is_among file_order fresh.now key ≡ false
-        → get file_order functions.new key ≡ get file_order functions.old key }
-    ensures left { OnOk result ((key : Key) → get file_order changed.new key
-        ≡ cond (is_among file_order fresh.now key) None (get file_order changed.old key)) }
-    ensures now { OnOk result ((key : Key)
-        → sums_now functions.new changed.new key ≡ sums_now functions.old changed.old key) }
-{
-    for key in fresh {
-        move_one(functions, changed, key)?;
-    }
-    Ok(())
-}
-
-/// Moves the sums of a key, where they were changed.
-fn move_one(
-    functions: &mut BTreeMap<Key, Sums>,
-    changed: &mut BTreeMap<Key, Sums>,
-    key: &Key,
-) -> Result<(), AllocError>
-    requires { maps.IsOrdered file_order functions.now }
-    ensures ordered { maps.IsOrdered file_order functions.new }
-    ensures others { (q : Key) → is_at (file_order key.now) q ≡ false
-        → get file_order functions.new q ≡ get file_order functions.old q }
-    ensures left { OnOk result ((q : Key) → get file_order changed.new q
-        ≡ cond (is_at (file_order key.now) q) None (get file_order changed.old q)) }
-    ensures now { OnOk result ((q : Key)
-        → sums_now functions.new changed.new q ≡ sums_now functions.old changed.old q) }
-{
-    if let Some((key, sums)) = changed.remove_entry(key) {
-        functions.insert(key, sums)?;
-    }
-    Ok(())
-}
-
-/// Puts sums in the place of others. It takes no memory.
-fn replace_sums(functions: &mut BTreeMap<Key, Sums>, changed: BTreeMap<Key, Sums>)
-    requires ordered { maps.IsOrdered file_order functions.now }
-    requires there { (key : Key) → IsSome (get file_order changed key)
-        → IsSome (get file_order functions.now key) }
-    ensures ordered { maps.IsOrdered file_order functions.new }
-    ensures now { (key : Key) → get file_order functions.new key ≡ sums_now functions.old changed key }
-{
-    let mut left = changed;
-    while let Some((key, sums)) = left.pop_first() {
-        replace_one(functions, key, sums);
+    let Update { script, room } = update;
+    let at = place_of_url(scripts, script.url.as_text());
+    if is_script_at(scripts, at, &script.url) {
+        let held = take_functions(alloc, scripts, at);
+        let functions = joined(room, held, script.functions.into_vec());
+        set_functions(scripts, at, functions);
+    } else {
+        let _ = scripts.insert(at, script);
     }
 }
 
-/// Puts the sums of a key that is there in the place of those that it has.
-fn replace_one(functions: &mut BTreeMap<Key, Sums>, key: Key, sums: Sums)
-    requires { IsSome (get file_order functions.now key) }
-    ensures ordered { maps.IsOrdered file_order functions.new }
-    ensures put { (q : Key) → get file_order functions.new q
-        ≡ cond (is_at (file_order key) q) (Some sums) (get file_order functions.old q) }
+/// Functions with others put in. It takes no memory.
+fn joined(room: Vec<Function>, held: Vec<Function>, new: Vec<Function>) -> Vec<Function>
+    requires empty { room.items ≡ [] }
+    requires len { vec_len room ≡ 0 }
+    requires room { length held.items + length new.items ≤ vec_capacity room }
+    requires held { AreInOrder held.items }
+    requires new { AreInOrder new.items }
+    ensures order { AreInOrder result.items }
+    ensures found { (url : List ℕ) (key : Key) → lookup (is_at (file_order key)) (own_list url
+        result.items) ≡ option_or (lookup (is_at (file_order key)) (own_list url new.items)) (lookup
+        (is_at (file_order key)) (own_list url held.items)) }
 {
-    let _ = functions.insert(key, sums);
-}
-
-/// Takes the sums of keys away.
-fn remove_sums(functions: &mut BTreeMap<Key, Sums>, fresh: &[Key])
-    requires { maps.IsOrdered file_order functions.now }
-    ensures ordered { maps.IsOrdered file_order functions.new }
-    ensures gone { (key : Key) → get file_order functions.new key
-        ≡ cond (is_among file_order fresh.now key) None (get file_order functions.old key) }
-{
-    for key in fresh {
-        functions.remove(key);
+    let mut all = room;
+    let mut held = held;
+    let _ = all.append(&mut held);
+    for function in new {
+        let _ = put_function(&mut all, function);
     }
+    all
 }

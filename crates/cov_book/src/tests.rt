@@ -6,7 +6,6 @@ ghost use Rattle.cov_model.specs.Nesting.{range_fault};
 use super::*;
 use cov_model::{Entry, FunctionReport, Items, Range, Snapshot, Text};
 use cov_ranges::check_ranges;
-use cov_steps::Runs;
 use std::alloc::Global;
 use std::marker::Brand;
 use std::sync::ledger::{Blank, Ledger};
@@ -46,83 +45,61 @@ fn snapshot(alloc: Global, url: &str, block: bool, ranges: &[Range]) -> Result<S
     Ok(Snapshot::new(scripts))
 }
 
-/// What became of snapshots that were added one after the other.
-#[derive(Drop)]
-struct Outcome {
-    book: Book,
-    fault: Option<SumFault>,
-}
-
-fn all_added(alloc: Global, snapshots: &[Snapshot]) -> Result<Outcome, Fail> {
-    all_counted::<Brand>(alloc, snapshots, Blank::new(1))
-}
-
-fn all_counted<L: Ledger>(
+/// Adds a snapshot of one function, and tells the fault if it is refused.
+fn add(
     alloc: Global,
-    snapshots: &[Snapshot],
+    book: &mut Book,
+    url: &str,
+    block: bool,
+    ranges: &[Range],
+) -> Result<Option<SumFault>, Fail> {
+    let snapshot = snapshot(alloc, url, block, ranges)?;
+    add_counted::<Brand>(book, &snapshot, Blank::new(1))
+}
+
+fn add_counted<L: Ledger>(
+    book: &mut Book,
+    snapshot: &Snapshot,
     blank: Blank,
-) -> Result<Outcome, Fail>
+) -> Result<Option<SumFault>, Fail>
     requires name { blank.name ≡ L.name }
     requires parts { (blank.parts ≡ L.parts) × (0 < L.parts) }
 {
     let mut steps: Steps<L> = Steps::new(blank);
-    let mut book = Book::new(alloc);
-    let mut fault = None;
-    for snapshot in snapshots {
-        match book.add(snapshot, &mut steps) {
-            Ok(()) => {}
-            Err(AddFault::Sum(found)) => fault = Some(found),
-            Err(AddFault::NoMemory) => return Err("no memory".into()),
-        }
+    match book.add(snapshot, &mut steps) {
+        Ok(()) => Ok(None),
+        Err(AddFault::Sum(found)) => Ok(Some(found)),
+        Err(AddFault::NoMemory) => Err("no memory".into()),
     }
-    Ok(Outcome { book, fault })
-}
-
-fn runs_of(alloc: Global, runs: &Runs) -> Result<Vec<Range>, Fail> {
-    counted_runs::<Brand>(alloc, runs, Blank::new(1))
-}
-
-fn counted_runs<L: Ledger>(alloc: Global, runs: &Runs, blank: Blank) -> Result<Vec<Range>, Fail>
-    requires name { blank.name ≡ L.name }
-    requires parts { (blank.parts ≡ L.parts) × (0 < L.parts) }
-{
-    let mut steps: Steps<L> = Steps::new(blank);
-    let mut list = Vec::new(alloc);
-    for i in 0..runs.len() {
-        list.push(runs.get(i, &mut steps))?;
-    }
-    Ok(list)
 }
 
 /// Five runs, then three of the same function, then one of another script's.
 fn three(alloc: Global) -> Result<Book, Fail> {
-    let snapshots = [
-        snapshot(
-            alloc,
-            A,
-            true,
-            &[range(0, 100, 1), range(10, 50, 5), range(20, 30, 3)],
-        )?,
-        snapshot(alloc, A, false, &[range(0, 100, 2), range(20, 60, 0)])?,
-        snapshot(alloc, B, false, &[range(0, 10, 1)])?,
-    ];
-    Ok(all_added(alloc, &snapshots)?.book)
+    let mut book = Book::new(alloc);
+    let five = [range(0, 100, 1), range(10, 50, 5), range(20, 30, 3)];
+    add(alloc, &mut book, A, true, &five)?;
+    add(
+        alloc,
+        &mut book,
+        A,
+        false,
+        &[range(0, 100, 2), range(20, 60, 0)],
+    )?;
+    add(alloc, &mut book, B, false, &[range(0, 10, 1)])?;
+    Ok(book)
 }
 
 #[test]
 fn runs_of_a_function(rt: HostRuntime) -> Result<(), Fail> {
-    let alloc = rt.alloc();
-    let book = three(alloc)?;
-    let runs = runs_of(alloc, book.held(A, 0, 100, "").ok_or("no function")?)?;
-    let want = [
-        range(0, 10, 3),
-        range(10, 20, 7),
-        range(20, 30, 3),
-        range(30, 50, 5),
-        range(50, 60, 1),
-        range(60, 100, 3),
-    ];
-    assert_eq!(rt; runs.as_slice(), want.as_slice());
+    let book = three(rt.alloc())?;
+    let runs = book.held(A, 0, 100, "").ok_or("no function")?;
+    assert_eq!(rt; runs.len(), 6);
+    assert_eq!(rt; runs.get_uncounted(0), range(0, 10, 3));
+    assert_eq!(rt; runs.get_uncounted(1), range(10, 20, 7));
+    assert_eq!(rt; runs.get_uncounted(2), range(20, 30, 3));
+    assert_eq!(rt; runs.get_uncounted(3), range(30, 50, 5));
+    assert_eq!(rt; runs.get_uncounted(4), range(50, 60, 1));
+    assert_eq!(rt; runs.get_uncounted(5), range(60, 100, 3));
     assert!(rt; book.held(A, 0, 99, "").is_none());
     assert!(rt; book.held(B, 0, 100, "").is_none());
     Ok(())
@@ -132,42 +109,43 @@ fn runs_of_a_function(rt: HostRuntime) -> Result<(), Fail> {
 fn scripts_and_numbers(rt: HostRuntime) -> Result<(), Fail> {
     let alloc = rt.alloc();
     let book = three(alloc)?;
-    let scripts = book.copy(alloc)?.scripts(alloc)?;
-    let first = scripts.scripts().first().ok_or("no script")?;
-    assert_eq!(rt; first.url.as_text(), A);
-    let function = first.functions.get(0).ok_or("no function")?;
-    let want = [
-        range(0, 100, 3),
-        range(10, 20, 7),
-        range(30, 50, 5),
-        range(50, 60, 1),
-    ];
-    assert_eq!(rt; function.ranges.as_slice(), want.as_slice());
-    assert!(rt; function.block);
     let numbers = book.numbers(alloc)?;
-    assert_eq!(rt; (numbers.scripts, numbers.functions), (2, 2));
-    assert_eq!(rt; (numbers.ranges, numbers.roots), (5, 4));
-    Ok(())
-}
-
-#[test]
-fn agreement_of_books(rt: HostRuntime) -> Result<(), Fail> {
-    let alloc = rt.alloc();
-    let book = three(alloc)?;
-    assert!(rt; book.agrees(&book.copy(alloc)?));
+    assert_eq!(rt;
+        (numbers.scripts, numbers.functions, numbers.roots),
+        (2, 2, 4)
+    );
+    let copy = book.copy(alloc)?;
+    assert!(rt; book.agrees(&copy));
     assert!(rt; !book.agrees(&Book::new(alloc)));
+    let scripts = copy.scripts(alloc)?;
+    let first = scripts.scripts().first().ok_or("no script")?;
+    let function = first.functions.get(0).ok_or("no function")?;
+    assert!(rt; function.block);
+    assert_eq!(rt; function.ranges.get(0).copied(), Some(range(0, 100, 3)));
+    let flat = book.flat_scripts(alloc)?;
+    assert_eq!(rt; flat.scripts().len(), 2);
     Ok(())
 }
 
 #[test]
 fn a_sum_past_the_limit(rt: HostRuntime) -> Result<(), Fail> {
     let alloc = rt.alloc();
-    let snapshots = [
-        snapshot(alloc, A, true, &[range(0, 10, 1), range(2, 4, GREATEST)])?,
-        snapshot(alloc, A, true, &[range(0, 10, 1), range(3, 5, 2)])?,
-    ];
-    let outcome = all_added(alloc, &snapshots)?;
-    let fault = outcome.fault.ok_or("no fault")?;
+    let mut book = Book::new(alloc);
+    add(
+        alloc,
+        &mut book,
+        A,
+        true,
+        &[range(0, 10, 1), range(2, 4, GREATEST)],
+    )?;
+    let fault = add(
+        alloc,
+        &mut book,
+        A,
+        true,
+        &[range(0, 10, 1), range(3, 5, 2)],
+    )?;
+    let fault = fault.ok_or("no fault")?;
     assert_eq!(rt; (fault.key.start, fault.key.end), (0, 10));
     assert_eq!(rt; fault.at, At::Offset(2));
     assert_eq!(rt; (fault.held, fault.added), (GREATEST, 1));

@@ -1,34 +1,99 @@
-use Rattle.std.proofs.Common.{sym, ◌∙◌}
-use Rattle.std.proofs.lemmas.Result.{err_from_is_err_and}
-use Rattle.cov_book.proofs.Costs.{report-cost, report-grows}
-use Rattle.cov_book.proofs.Preparing.{prepared-report, past-report}
+use Rattle.std.proofs.Common.{◌≡◌, sym, ap, ◌∙◌, subst}
+use Rattle.std.specs.Prelude.{Some, option_copied}
+use Rattle.cov_book.specs.Least.{IsLeastSoFar}
+use Rattle.cov_book.specs.Listed.{own_list}
+use Rattle.cov_book.specs.Prepared.{report_sums, summed, sums_now, with_report, IsWithin}
+use Rattle.cov_book.specs.Stretching.{IfRooted}
+use Rattle.cov_book.specs.Told.{named}
+use Rattle.cov_book.proofs.Candidate.{least-none, least-skipped, least-added, least-found, report-spent, report-grown}
+use Rattle.cov_book.proofs.Placed.{key-of-root, none-of-root, put-in-order, put-found, rooted-known}
 use Rattle.cov_book.proofs.adding.add_report.Goals as goal
 
-pub returns-in_err-sums-clause-past : goal.returns-in_err-sums-clause-past
-returns-in_err-sums-clause-past g c =
-    let p = err_from_is_err_and c.from_residual-in_err-sums.result c.from_residual-in_err-sums.ensures.1 in
-    let is = sym c.in_ok-key.ensures ∙ c.in-Some.is in
-    rw (p.1, p.2)
-    (λ known before.
-    past-report c.in_err-sums.field-0.0 known c.args.functions.now c.args.changed.now c.args.url.now c.args.report.now c.in-Some.key before is c.in_err-sums.ensures.past)
+pub returns-in_default-clause-sums : goal.returns-in_default-clause-sums
+returns-in_default-clause-sums g c = λ all functions knows before.
+    least-none all functions (own_list c.args.url.now c.args.changed.now.items) c.args.past c.args.url.now c.args.report.now before (none-of-root c.args.url.now c.args.report.now c.in_default.ensures.value)
 
-pub returns-clause-sums : goal.returns-clause-sums
-returns-clause-sums g c =
-    let is = sym c.in_ok-key.ensures ∙ c.in-Some.is in
-    λ known before.
-    prepared-report known c.args.functions.now c.args.changed.now c.insert.new.self c.args.url.now c.args.report.now c.in-Some.key c.in_ok-sums.sums
-    before is c.in_ok-sums.ensures.within c.in_ok-sums.ensures.sums c.in-Ok.ensures.updates.0
+pub returns-then-not-is_before-clause-sums : goal.returns-then-not-is_before-clause-sums
+returns-then-not-is_before-clause-sums g c = λ all functions knows before.
+    let url = c.args.url.now in
+    let f = c.args.report.now in
+    let root = c.in-Some.root.now in
+    least-skipped all functions (own_list url c.args.changed.now.items) c.args.past url f (named url root.start root.end f.name)
+    before (key-of-root url f root c.in-Some.ensures.value) (sym c.is_before.ensures ∙ c.if-not-is_before.true)
 
-pub returns-clause-cost : goal.returns-clause-cost
-returns-clause-cost g c =
-    let is = sym c.in_ok-key.ensures ∙ c.in-Some.is in
-    λ known bound before within.
-    report-cost known c.args.functions.now c.args.changed.now c.args.url.now c.args.report.now c.in-Some.key bound c.args.steps.now c.sums_with.new.steps before is
-    c.in_ok-sums.ensures.cost within
+pub sums_with-requires-clause-rooted : goal.sums_with-requires-clause-rooted
+sums_with-requires-clause-rooted g c =
+    let url = c.args.url.now in
+    let f = c.args.report.now in
+    let root = c.in-Some.root.now in
+    let k = named url root.start root.end f.name in
+    let all = c.requires.so_far.0 in
+    let functions = c.requires.so_far.1 in
+    let is : option_copied c.sums_so_far-before.result ≡ sums_now functions (own_list url c.args.changed.now.items) k =
+    c.sums_so_far-before.ensures url functions c.requires.so_far.2
+    ∙ (λ i. sums_now functions (own_list url (c.deref.ensures.value i)) (named url root.start root.end (c.as_text.ensures i))) in
+    subst (IfRooted (report_sums f).runs.start (report_sums f).runs.end) (sym is)
+    (rooted-known all functions (own_list url c.args.changed.now.items) c.args.past url f k c.requires.so_far.3 (key-of-root url f root c.in-Some.ensures.value))
 
-pub returns-clause-grows : goal.returns-clause-grows
-returns-clause-grows g c =
-    let is = sym c.in_ok-key.ensures ∙ c.in-Some.is in
-    λ known before.
-    report-grows known c.args.functions.now c.args.changed.now c.args.url.now c.args.report.now c.in-Some.key c.in_ok-sums.sums before is c.in_ok-sums.ensures.sums
-    c.in_ok-sums.ensures.size
+pub returns-in-Ok-clause-order : goal.returns-in-Ok-clause-order
+returns-in-Ok-clause-order g c =
+    let root = c.in-Some.root.now in
+    put-in-order (record { start = root.start; end = root.end; name = c.in_ok-name-in-Ok.name; sums = c.in-Ok.sums }) c.args.changed.now.items c.put_function.new.functions.items
+    c.requires.changed c.in_ok-put_function-in-Ok.ensures.put
+
+pub returns-in-Ok-clause-sums : goal.returns-in-Ok-clause-sums
+returns-in-Ok-clause-sums g c = λ all functions knows before.
+    let url = c.args.url.now in
+    let f = c.args.report.now in
+    let root = c.in-Some.root.now in
+    let k = named url root.start root.end f.name in
+    let old = own_list url c.args.changed.now.items in
+    let is : option_copied c.sums_so_far-before.result ≡ sums_now functions old k =
+    c.sums_so_far-before.ensures url functions knows
+    ∙ (λ i. sums_now functions (own_list url (c.deref.ensures.value i)) (named url root.start root.end (c.as_text.ensures i))) in
+    least-added all functions old (own_list url c.put_function.new.functions.items) c.args.past url f k c.in-Ok.sums
+    before (key-of-root url f root c.in-Some.ensures.value) (sym c.is_before.ensures ∙ c.if-not-is_before.false) c.in-Ok.ensures.within
+    (c.in-Ok.ensures.sums ∙ ap (λ o. summed o (report_sums f)) is)
+    (put-found url (record { start = root.start; end = root.end; name = c.in_ok-name-in-Ok.name; sums = c.in-Ok.sums }) k c.in-Ok.sums c.args.changed.now.items c.put_function.new.functions.items
+    c.in_ok-put_function-in-Ok.ensures.put (ap (named url root.start root.end) c.in_ok-name-in-Ok.ensures.cases) (λ i. c.in-Ok.sums))
+
+pub returns-in-Ok-clause-cost : goal.returns-in-Ok-clause-cost
+returns-in-Ok-clause-cost g c = λ none all functions bound knows before within.
+    let url = c.args.url.now in
+    let f = c.args.report.now in
+    let root = c.in-Some.root.now in
+    let k = named url root.start root.end f.name in
+    let old = own_list url c.args.changed.now.items in
+    let is : option_copied c.sums_so_far-before.result ≡ sums_now functions old k =
+    c.sums_so_far-before.ensures url functions knows
+    ∙ (λ i. sums_now functions (own_list url (c.deref.ensures.value i)) (named url root.start root.end (c.as_text.ensures i))) in
+    report-spent all functions old c.args.past url f k bound c.args.steps.now c.sums_with.new.steps (option_copied c.sums_so_far-before.result)
+    before none (key-of-root url f root c.in-Some.ensures.value) is c.in-Ok.ensures.cost within
+
+pub returns-in-Ok-clause-grows : goal.returns-in-Ok-clause-grows
+returns-in-Ok-clause-grows g c = λ none all functions knows before.
+    let url = c.args.url.now in
+    let f = c.args.report.now in
+    let root = c.in-Some.root.now in
+    let k = named url root.start root.end f.name in
+    let old = own_list url c.args.changed.now.items in
+    let is : option_copied c.sums_so_far-before.result ≡ sums_now functions old k =
+    c.sums_so_far-before.ensures url functions knows
+    ∙ (λ i. sums_now functions (own_list url (c.deref.ensures.value i)) (named url root.start root.end (c.as_text.ensures i))) in
+    report-grown all functions old c.args.past url f k c.in-Ok.sums (option_copied c.sums_so_far-before.result)
+    before none (key-of-root url f root c.in-Some.ensures.value) is c.in-Ok.ensures.sums c.in-Ok.ensures.size
+
+pub returns-in-Err-Past-clause-sums : goal.returns-in-Err-Past-clause-sums
+returns-in-Err-Past-clause-sums g c = λ all functions knows before.
+    let url = c.args.url.now in
+    let f = c.args.report.now in
+    let root = c.in-Some.root.now in
+    let k = named url root.start root.end f.name in
+    let old = own_list url c.args.changed.now.items in
+    let is : option_copied c.sums_so_far-before.result ≡ sums_now functions old k =
+    c.sums_so_far-before.ensures url functions knows
+    ∙ (λ i. sums_now functions (own_list url (c.deref.ensures.value i)) (named url root.start root.end (c.as_text.ensures i))) in
+    subst (λ now. IsLeastSoFar (with_report all url f) functions old (Some now)) (sym c.in_ok-key_named-in-Err-Past.ensures)
+    (least-found all functions old c.args.past url f k
+    before (key-of-root url f root c.in-Some.ensures.value) (sym c.is_before.ensures ∙ c.if-not-is_before.false)
+    (λ within. (rw c.in-Err-Past.field-0-is at c.in-Err-Past.ensures.past) (subst (λ o. IsWithin (summed o (report_sums f))) (sym is) within)))

@@ -1,41 +1,26 @@
-use Rattle.std.proofs.Common.{◌≡◌, ◌++◌, length, drop, map, sym, ap, ◌∙◌, subst, arith}
-use Rattle.std.specs.Map.Iter.{deref, deref_pair}
-use Rattle.std.proofs.lemmas.Map.Iter.{rest_more}
-use Rattle.cov_model.specs.declared.snapshot.Entry.{Entry}
-use Rattle.cov_book.specs.Prepared.{AreAligned, IsAligned, told_report}
-use Rattle.cov_book.specs.Told.{front}
-use Rattle.cov_book.proofs.Walked.{behind, walk, walk-all, rises, All-drop, drop-map, count-told, told-fits, walk-more}
+use Rattle.std.proofs.Common.{◌++◌, map, sym, ap, ◌∙◌, subst, arith}
+use Rattle.cov_model.specs.Nesting.{AreNested}
+use Rattle.cov_book.specs.declared.scripts.Script.{Script}
+use Rattle.cov_book.specs.Listed.{listed, told_script}
+use Rattle.cov_book.specs.Prepared.{AreAligned}
+use Rattle.cov_book.proofs.Flat.{aligned-each, all-here, drop-nil, told-next}
 use Rattle.cov_book.proofs.merged.scripts_of.Goals as goal
 
-pub loop-url-init : goal.loop-url-init
-loop-url-init c =
-    let entries = c.args.functions.now.entries in
-    let urls = c.into_iter-url-iterator.ensures.into_iter_gives in
-    let all : map deref_pair c.as_slice-rest.result.now ≡ entries = ap (map deref_pair) c.as_slice-rest.ensures.value ∙ c.in_ok-found.ensures.entries in
-    record {
-      aligned = subst AreAligned (sym all) c.requires.aligned;
-      told = (λ i. c.new-entries.ensures i ++ walk (urls.0 i) (all i)) ∙ walk-all c.args.urls.now.keys entries urls.4 (rises entries c.in_ok-found.ensures.order) c.requires.known;
-    }
+pub entry_of-requires : goal.entry_of-requires
+entry_of-requires c =
+    all-here (λ (s : Script). AreAligned (listed s)) c.args.scripts.now c.loop-script.script-index c.script-item.result (aligned-each c.args.scripts.now c.requires.aligned) c.loop-script-test.true c.script-item.is
 
-pub past-rest-requires : goal.past-rest-requires
-past-rest-requires c =
-    let fits = told-fits deref_pair c.in-Some.url.now c.loop-url.rest.now c.in_ok-functions.functions c.in_ok-functions.ensures in
-    let count = c.len.ensures in
-    omega arith
+pub loop-script-init : goal.loop-script-init
+loop-script-init c = ap (λ rs. rs ++ map (told_script c.args.form) c.args.scripts.now) c.new-entries.ensures
 
-pub loop-url-preserved : goal.loop-url-preserved
-loop-url-preserved c =
-    let url = c.in-Some.url.now in
-    let es = map deref_pair c.loop-url.rest.now in
-    let count = c.len.ensures ∙ count-told url es c.in_ok-functions.functions c.in_ok-functions.ensures in
-    let next : map deref_pair c.past-rest.result.now ≡ behind url es =
-    ap (map deref_pair) c.past-rest.ensures ∙ drop-map deref_pair c.len.result c.loop-url.rest.now ∙ ap (λ n. drop n es) count in
-    let entry : Entry = record { url = c.in_ok-clone.field-0; functions = c.in_ok-functions.functions } in
-    let is : entry ≡ record { url = url; functions = map told_report (front url es) } = (λ i. record { url = c.in_ok-clone.ensures.cases i; functions = c.in_ok-functions.ensures i }) in
-    let first = rest_more deref c.loop-url.url-iterator c.next.new.self c.next.result c.in-Some.url c.in-Some.is c.next.ensures.steps in
-    record {
-      aligned = subst AreAligned (sym next) (All-drop IsAligned (length (front url es)) es c.loop-url.invariant.aligned);
-      told =
-          ap (λ xs. xs ++ walk c.next.new.self (map deref_pair c.past-rest.result.now)) c.in_ok-push.ensures.ok
-          ∙ walk-more c.loop-url.entries c.loop-url.url-iterator c.next.new.self url es (map deref_pair c.past-rest.result.now) entry _ first is next c.loop-url.invariant.told;
-    }
+pub loop-script-preserved : goal.loop-script-preserved
+loop-script-preserved c =
+    told-next (told_script c.args.form) c.loop-script.entries c.push.new.self _ c.in_ok-entry_of.field-0 c.args.scripts.now c.loop-script.script-index c.script-item.result
+    c.loop-script-test.true c.script-item.is c.in_ok-push.ensures.ok c.in_ok-entry_of.ensures c.loop-script.invariant
+
+pub new-requires : goal.new-requires
+new-requires c =
+    subst AreNested (sym (drop-nil (told_script c.args.form) c.loop-script.entries _ c.args.scripts.now c.loop-script.script-index (omega (arith, c.loop-script-test.false)) c.loop-script.invariant)) c.requires.nested
+
+pub returns : goal.returns
+returns c = c.new.ensures ∙ drop-nil (told_script c.args.form) c.loop-script.entries _ c.args.scripts.now c.loop-script.script-index (omega (arith, c.loop-script-test.false)) c.loop-script.invariant

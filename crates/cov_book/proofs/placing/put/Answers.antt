@@ -1,45 +1,74 @@
-use Rattle.std.proofs.Common.{false, sym, ap, ◌∙◌}
-use Rattle.std.specs.Prelude.{cond, not}
-use Rattle.std.specs.BTreeSet.{contains}
-use Rattle.std.proofs.lemmas.Map.Lookups.{btree_set_from_contains}
+use Rattle.std.proofs.Common.{◌≡◌, length, sym, ap, ◌∙◌, subst, arith, rules}
+use Rattle.std.specs.Option.{option_or}
+use Rattle.std.specs.List.{AllByRecursion}
+use Rattle.std.specs.Vec.{vec_len}
+use Rattle.std.specs.Vec.Iter.{into_iter_items}
 use Rattle.cov_text.specs.Listing.{inserted, text_cmp}
-use Rattle.cov_book.specs.Prepared.{is_among}
-use Rattle.cov_book.specs.Urls.{urls_of}
-use Rattle.cov_book.proofs.Ordered.{text_total, text_exact}
-use Rattle.cov_book.proofs.Placed.{among-filter, and-not, fresh-enough, urls-back}
+use Rattle.cov_book.specs.Listed.{AreSorted, held_in, urls_in}
+use Rattle.cov_book.specs.Room.{HasRoom}
+use Rattle.cov_book.proofs.Among.{first-in-order, held-next, rest-sorted, room-next, scripts_in}
+use Rattle.cov_book.proofs.Placed.{none-left}
 use Rattle.cov_book.proofs.placing.put.Goals as goal
 
-pub put_urls-requires-clause-fresh : goal.put_urls-requires-clause-fresh
-put_urls-requires-clause-fresh c = λ url there.
-    let known = c.args.urls.now in
-    let urls = urls_of c.args.snapshot.now in
-    and-not (is_among text_cmp urls url) (contains text_cmp known url)
-    (sym (ap (λ fresh. is_among text_cmp fresh url) (c.deref.ensures.value ∙ c.in_ok-fresh.ensures)
-    ∙ among-filter text_cmp text_total text_exact (λ u. not (contains text_cmp known u)) url urls) ∙ there)
+pub loop-update-init : goal.loop-update-init
+loop-update-init c =
+    let gives = c.into_iter-update-iterator.ensures.into_iter_gives in
+    let us = c.in_ok-updates.updates in
+    let whole : vec_len us ≡ length us.items = search rules in
+    let are : scripts_in (into_iter_items c.into_iter-update-iterator.result) ≡ c.args.changed.items = ap scripts_in gives.0 ∙ c.in_ok-updates.ensures.scripts in
+    let same = c.in_ok-reserve.ensures.items in
+    record {
+      order = subst AreSorted (sym same) c.requires.order;
+      left = subst AreSorted (sym are) c.requires.changed;
+      held = λ key. ap (λ ss. option_or (held_in ss key) (held_in c.reserve.new.self.items key)) are;
+      urls = ap (λ ss. inserted text_cmp (urls_in c.reserve.new.self.items) (urls_in ss)) are;
+      room = subst (λ ss. AllByRecursion (HasRoom ss) (into_iter_items c.into_iter-update-iterator.result)) (c.deref.ensures.value ∙ sym same) (subst (AllByRecursion (HasRoom c.deref.result.now)) (sym gives.0) c.in_ok-updates.ensures.room);
+      place = let room = c.in_ok-reserve.ensures.ok in omega (arith, room, gives.1, c.len.ensures);
+      count = gives.1 ∙ whole ∙ ap length (sym gives.0);
+    }
 
-pub returns-in_default-clause-urls : goal.returns-in_default-clause-urls
-returns-in_default-clause-urls c =
-    let known = c.args.urls.now in
-    c.in_ok-put_urls.ensures.ok
-    ∙ ap (inserted text_cmp known.keys) (c.deref.ensures.value ∙ c.in_ok-fresh.ensures)
-    ∙ fresh-enough known.keys (urls_of c.args.snapshot.now) c.requires.urls
+pub put_script-requires-clause-functions : goal.put_script-requires-clause-functions
+put_script-requires-clause-functions c =
+    let u = c.in-Some.update in
+    let left = subst (λ us. AreSorted (scripts_in us)) c.in-Some.ensures.steps.0 c.loop-update.invariant.left in
+    first-in-order u.script (scripts_in (into_iter_items c.next.new.self)) left
 
-pub remove_urls-requires : goal.remove_urls-requires
-remove_urls-requires c = c.in_ok-put_urls.ensures.ordered
+pub put_script-requires-clause-room : goal.put_script-requires-clause-room
+put_script-requires-clause-room c = (subst (AllByRecursion (HasRoom c.loop-update.scripts.items)) c.in-Some.ensures.steps.0 c.loop-update.invariant.room).0
 
-pub returns-clause-urls_stay : goal.returns-clause-urls_stay
-returns-clause-urls_stay c =
-    let known = c.args.urls.now in
-    let same = c.deref-2.ensures.value ∙ sym c.deref.ensures.value in
-    let fresh = c.deref.result.now in
-    btree_set_from_contains text_total c.remove_urls.new.urls known c.remove_urls.ensures.ordered c.requires.urls
-    (λ q.
-    c.remove_urls.ensures.gone q
-    ∙ ap (λ xs. cond (is_among text_cmp xs q) false (contains text_cmp c.put_urls.new.urls q)) same
-    ∙ ap (λ ks. cond (is_among text_cmp fresh q) false (is_among text_cmp ks q)) c.in_ok-put_urls.ensures.ok
-    ∙ urls-back known.keys fresh q
-    (λ there.
-    and-not (is_among text_cmp (urls_of c.args.snapshot.now) q) (contains text_cmp known q)
-    (sym (ap (λ xs. is_among text_cmp xs q) (c.deref.ensures.value ∙ c.in_ok-fresh.ensures)
-    ∙ among-filter text_cmp text_total text_exact (λ u. not (contains text_cmp known u)) q (urls_of c.args.snapshot.now)) ∙ there)))
-    text_exact
+pub put_script-requires-clause-place : goal.put_script-requires-clause-place
+put_script-requires-clause-place c = omega (arith, c.in-Some.ensures.steps.1, c.loop-update.invariant.place)
+
+pub loop-update-preserved : goal.loop-update-preserved
+loop-update-preserved c =
+    let u = c.in-Some.update in
+    let inv = c.loop-update.invariant in
+    let steps = c.in-Some.ensures.steps in
+    let rest = into_iter_items c.next.new.self in
+    let ss = c.loop-update.scripts.items in
+    let more = c.put_script.new.scripts.items in
+    let left = subst (λ us. AreSorted (scripts_in us)) steps.0 inv.left in
+    let put = c.put_script.ensures in
+    record {
+      order = put.order;
+      left = rest-sorted u.script (scripts_in rest) left;
+      held = λ key. held-next u.script (scripts_in rest) ss more left put.held key ∙ ap (λ us. option_or (held_in (scripts_in us) key) (held_in ss key)) (sym steps.0) ∙ inv.held key;
+      urls = ap (λ us. inserted text_cmp us (urls_in (scripts_in rest))) put.urls ∙ sym (ap (λ us. inserted text_cmp (urls_in ss) (urls_in (scripts_in us))) steps.0) ∙ inv.urls;
+      room = room-next u rest ss more left put.others (subst (AllByRecursion (HasRoom ss)) steps.0 inv.room);
+      place = omega (arith, steps.1, inv.place, put.len, put.capacity);
+      count = let again = ap length steps.0 in omega (arith, steps.1, inv.count, again);
+    }
+
+pub returns-clause-held : goal.returns-clause-held
+returns-clause-held c = λ key.
+    let inv = c.loop-update.invariant in
+    let none = none-left (into_iter_items c.loop-update.update-iterator) (let len = c.in-None.ensures.steps.0 in omega (arith, len, inv.count)) in
+    sym (ap (λ us. option_or (held_in (scripts_in us) key) (held_in c.loop-update.scripts.items key)) none) ∙ inv.held key
+    ∙ ap (λ ss. option_or (held_in c.args.changed.items key) (held_in ss key)) c.in_ok-reserve.ensures.items
+
+pub returns-clause-urls : goal.returns-clause-urls
+returns-clause-urls c =
+    let inv = c.loop-update.invariant in
+    let none = none-left (into_iter_items c.loop-update.update-iterator) (let len = c.in-None.ensures.steps.0 in omega (arith, len, inv.count)) in
+    sym (ap (λ us. inserted text_cmp (urls_in c.loop-update.scripts.items) (urls_in (scripts_in us))) none) ∙ inv.urls
+    ∙ ap (λ ss. inserted text_cmp (urls_in ss) (urls_in c.args.changed.items)) c.in_ok-reserve.ensures.items

@@ -1,0 +1,125 @@
+//! What a book keeps: scripts in order, and of each its functions in order.
+ghost use Rattle.std.specs.Prelude.{◌≡◌, ℕ, ◌+◌, ◌<◌, ◌≤◌, [], List, Some, IfOk, OnOk, OnErr, is_some, slice_get, slice_set};
+ghost use Rattle.cov_book.specs.declared.scripts.Script.{Script};
+ghost use Rattle.std.specs.BTreeSet.{insert_key};
+ghost use Rattle.cov_text.specs.Listing.{text_cmp};
+ghost use Rattle.std.specs.Vec.{vec_len, vec_capacity};
+ghost use Rattle.std.specs.BTreeMap.{insert_entry};
+ghost use Rattle.cov_model.specs.Sums.{file_order};
+ghost use Rattle.cov_book.specs.Listed.{bare, bare_key, hit, is_there, of_url, urls_in, AreInOrder, AreSorted};
+
+use crate::looking::{is_function, place_of, place_of_url};
+use crate::sums::Sums;
+use cov_model::{Items, Text};
+use std::alloc::{AllocError, Global};
+
+/// A function of a script: its root's start and end in UTF-16 units, its name, and its sums.
+#[derive(Clone, Debug, Drop)]
+pub struct Function {
+    pub start: u32,
+    pub end: u32,
+    pub name: Text,
+    pub sums: Sums,
+}
+
+/// A script, with its functions by start rising, end falling and name in byte order.
+#[derive(Clone, Debug, Drop)]
+pub struct Script {
+    pub url: Text,
+    pub functions: Items<Function>,
+}
+
+/// Puts a function at its place, or in the place of the one of the same root and name. It takes no
+/// memory where there is room for one more.
+pub fn put_function(functions: &mut Vec<Function>, function: Function) -> Result<(), AllocError>
+    requires { AreInOrder functions.now.items }
+    ensures put { OnOk result (bare functions.new.items
+        ≡ insert_entry file_order (bare functions.old.items) (bare_key function) function.sums) }
+    ensures err { OnErr result (functions.new.items ≡ functions.old.items) }
+    ensures full { OnErr result (vec_capacity functions.old ≤ vec_len functions.old) }
+    ensures len { vec_len functions.new ≤ vec_len functions.old + 1 }
+    ensures capacity { vec_capacity functions.old ≤ vec_capacity functions.new }
+{
+    let at = place_of(
+        functions,
+        function.start,
+        function.end,
+        function.name.as_text(),
+    );
+    if is_at(functions, at, &function) {
+        functions[at] = function;
+        return Ok(());
+    }
+    functions.insert(at, function)?;
+    Ok(())
+}
+
+/// Whether the function of the same root and name stands at a place.
+fn is_at(functions: &[Function], at: usize, function: &Function) -> bool
+    ensures { result ≡ is_some (hit (bare_key function.now) (slice_get functions.now at)) }
+{
+    let Some(there) = functions.get(at) else {
+        return false;
+    };
+    is_function(there, function.start, function.end, function.name.as_text())
+}
+
+/// Where the script of a url stands. It is put in, with no function, where it isn't there.
+pub fn place_of_script(
+    alloc: Global,
+    scripts: &mut Vec<Script>,
+    url: &Text,
+) -> Result<usize, AllocError>
+    requires { AreSorted scripts.now.items }
+    ensures order { OnOk result (AreSorted scripts.new.items) }
+    ensures place { IfOk result (λ at. at < vec_len scripts.new) }
+    ensures script { IfOk result (λ at. slice_get scripts.new.items at
+        ≡ Some (record { url = url.now; functions = of_url url.now scripts.old.items })) }
+    ensures same { OnOk result ((u : List ℕ)
+        → of_url u scripts.new.items ≡ of_url u scripts.old.items) }
+    ensures urls { OnOk result (urls_in scripts.new.items
+        ≡ insert_key text_cmp (urls_in scripts.old.items) url.now) }
+{
+    let at = place_of_url(scripts, url.as_text());
+    if is_script_at(scripts, at, url) {
+        return Ok(at);
+    }
+    let url = url.clone()?;
+    let functions = Items::new(alloc);
+    scripts.insert(at, Script { url, functions })?;
+    Ok(at)
+}
+
+/// Whether the script of a url stands at a place.
+pub fn is_script_at(scripts: &[Script], at: usize, url: &Text) -> bool
+    ensures { result ≡ is_there url.now (slice_get scripts.now at) }
+{
+    let Some(there) = scripts.get(at) else {
+        return false;
+    };
+    there.url == *url
+}
+
+/// Takes the functions of a script out, which then has none.
+pub fn take_functions(alloc: Global, scripts: &mut Vec<Script>, at: usize) -> Vec<Function>
+    requires { at < vec_len scripts.now }
+    ensures functions { (s : Script) → slice_get scripts.old.items at ≡ Some s
+        → result.items ≡ s.functions }
+    ensures left { (s : Script) → slice_get scripts.old.items at ≡ Some s
+        → scripts.new.items ≡ slice_set scripts.old.items at (record { url = s.url; functions = [] }) }
+    ensures len { vec_len scripts.new ≡ vec_len scripts.old }
+    ensures capacity { vec_capacity scripts.new ≡ vec_capacity scripts.old }
+{
+    std::mem::replace(&mut scripts[at].functions, Items::new(alloc)).into_vec()
+}
+
+/// Gives a script these functions.
+pub fn set_functions(scripts: &mut Vec<Script>, at: usize, functions: Vec<Function>)
+    requires { at < vec_len scripts.now }
+    ensures set { (s : Script) → slice_get scripts.old.items at ≡ Some s
+        → scripts.new.items ≡ slice_set scripts.old.items at (record { url = s.url; functions = functions.items }) }
+    ensures len { vec_len scripts.new ≡ vec_len scripts.old }
+    ensures capacity { vec_capacity scripts.new ≡ vec_capacity scripts.old }
+{
+    scripts[at].functions = Items::from_vec(functions);
+}
