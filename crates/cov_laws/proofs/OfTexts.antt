@@ -1,6 +1,6 @@
 -- What is accepted of texts was read and fits, so its file tells its sums.
 use Rattle.std.proofs.Common.{◌≡◌, ℕ, List, [], ◌∷◌, ◌++◌, map, refl}
-use Rattle.std.specs.Prelude.{◌↔◌, Bool, true, Option, None, Some, Result, Ok, Err, IsTrue}
+use Rattle.std.specs.Prelude.{◌↔◌, Bool, true, Option, None, Some, Ok, Err, IsTrue}
 use Rattle.cov_model.specs.declared.snapshot.Snapshot.{Snapshot}
 use Rattle.cov_model.specs.declared.sums.SumFault.{SumFault}
 use Rattle.cov_model.specs.Held.{held_of}

@@ -2,7 +2,7 @@
 use Rattle.std.proofs.Common.{◌≡◌, List, [], ◌∷◌, sym, ap, ◌∙◌}
 use Rattle.std.proofs.lemmas.List.{append-nil}
 use Rattle.cov_model.specs.declared.snapshot.Snapshot.{Snapshot}
-use Rattle.cov_model.specs.File.{file, scripts}
+use Rattle.cov_model.specs.File.{file_in, scripts}
 use Rattle.cov_model.specs.Held.{held_of}
 use Rattle.cov_book.proofs.Agreeing.{held-agree, come-to-one}
 use Rattle.cov_book.proofs.Shards.{merges_in_parts}
@@ -16,7 +16,7 @@ sums-of-scripts : (held : List Snapshot) → held_of (scripts held ∷ []) ≡ h
 sums-of-scripts held = (merges_in_parts (held ∷ [])).sums ∙ ap held_of (append-nil held)
 
 pub one_file : OneFile
-unfolding file
+unfolding file_in
 one_file one other fit also h k = (
   λ same.
       sym (sums-of-scripts one)

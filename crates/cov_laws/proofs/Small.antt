@@ -1,6 +1,6 @@
 -- The numbers in the scripts of a list that fits are below 2^64.
-use Rattle.std.proofs.Common.{◌≡◌, ℕ, zero, suc, ◌+◌, ◌-◌, ◌<◌, ◌≤◌, ◌^◌, Bool, true, false, List, [], ◌∷◌, ◌++◌, map, refl, subst, arith, inl, inr}
-use Rattle.std.specs.Prelude.{option_map, cond, nat_le, ◌&&◌, ◌==◌, not, filter, filter_map, flat_map}
+use Rattle.std.proofs.Common.{◌≡◌, ℕ, zero, suc, ◌+◌, ◌-◌, ◌<◌, ◌≤◌, ◌^◌, Bool, true, false, List, [], ◌∷◌, ◌++◌, map, refl, sym, subst, arith, inl, inr}
+use Rattle.std.specs.Prelude.{option_map, cond, nat_le, ◌&&◌, filter, filter_map, flat_map}
 use Rattle.std.specs.List.{AllByRecursion, list_all, cons_option}
 use Rattle.std.specs.declared.cmp.Ordering.{Ordering}
 use Rattle.std.specs.declared.cmp.Ordering.TheVariants.{Less, Equal, Greater}
@@ -16,9 +16,12 @@ use Rattle.cov_model.specs.declared.sums.At.TheVariants.{Offset}
 use Rattle.cov_text.specs.Listing.{first_of, inserted, counted, offsets, same_text}
 use Rattle.cov_text.specs.Listing.{limit}
 use Rattle.cov_model.specs.Sums.{fits, sum_at, root, total, keys, keys_in_order, urls_in_order, file_order, key_of}
-use Rattle.cov_model.specs.Normal.{range, grown, runs_over, maximal_runs, flat}
-use Rattle.cov_model.specs.File.{merged_report, merged_entry, scripts}
+use Rattle.cov_model.specs.Nested.{nest, nested}
+use Rattle.cov_model.specs.File.{merged_report, merged_entry, scripts, scripts_in}
 use Rattle.cov_model.proofs.Grows.{fits-each}
+use Rattle.cov_normal.specs.Nests.{Nests}
+use Rattle.cov_normal.specs.Nests.Nests.{plain, child}
+use Rattle.cov_normal.proofs.Nests.{nests}
 use Rattle.cov_laws.specs.Laws.{HasOffsets}
 use Rattle.cov_laws.proofs.Written.{IsSmall, AreSmall, HasSmall, HasAllSmall}
 
@@ -61,29 +64,25 @@ All-inserted : {A : Type 0} (P : A → Type 0) (cmp : A → A → Ordering) (xs 
 All-inserted P cmp [] known k h = k
 All-inserted P cmp (x ∷ xs) known k h = All-inserted P cmp xs (insert_key cmp known x) (All-insert P cmp known x k h.0) h.1
 
--- ---- runs
+-- ---- the ranges of a nested list
 
-small-grown : (o count : ℕ) (runs : List Range) → suc o < 2 ^ 64 → count < 2 ^ 64 → AreSmall runs → AreSmall (grown o count runs)
-small-grown o count [] h k small = (record { start = omega arith; end = h; count = k }, tt)
-small-grown o count (run ∷ runs) h k small =
-    elim (run.count == count) as (λ b. AreSmall (cond b (range o run.end count ∷ runs) (range o (suc o) count ∷ run ∷ runs))) [
-      | true ↦ (record { start = omega arith; end = small.0.end; count = k }, small.1)
-      | false ↦ (record { start = omega arith; end = h; count = k }, small)
-    ]
+small-nests : (f : ℕ → ℕ) (s e c : ℕ) (xs : List Range) → Nests f s e c xs → e < 2 ^ 64 → ((o : ℕ) → s ≤ o → o < e → f o < 2 ^ 64) → AreSmall xs
+small-nests f s e c xs (plain _ _ _ _ all is) k each = subst AreSmall (sym is) tt
+small-nests f s e c xs (child _ _ _ a b p inside behind _ h i j is) k each =
+    let from = h.from in
+    let low = h.low in
+    let high = h.high in
+    let to = h.to in
+    subst AreSmall (sym is) (
+      record { start = omega arith; end = omega arith; count = each a from (omega arith) },
+      All-append IsSmall inside behind (small-nests f a (suc p) (f a) inside i (omega arith) (λ o lo hi. each o (omega arith) (omega arith)))
+          (small-nests f (suc p) e c behind j k (λ o lo hi. each o (omega arith) hi)),
+    )
 
-small-runs : (n s : ℕ) (f : ℕ → ℕ) → s + n < 2 ^ 64 → ((o : ℕ) → s ≤ o → o < s + n → f o < 2 ^ 64) → AreSmall (runs_over s n f)
-small-runs zero s f h each = tt
-small-runs (suc n) s f h each =
-    small-grown s (f s) (runs_over (suc s) n f) (omega arith) (each s (omega arith) (omega arith))
-    (small-runs n (suc s) f (omega arith) (λ o low high. each o (omega arith) (omega arith)))
-
-small-flat : (start end count : ℕ) (f : ℕ → ℕ) → start < 2 ^ 64 → end < 2 ^ 64 → count < 2 ^ 64 → ((o : ℕ) → start ≤ o → o < end → f o < 2 ^ 64) → AreSmall (flat start end count f)
-unfolding flat maximal_runs
-small-flat start end count f h k c each = (
-  record { start = h; end = k; count = c },
-  All-filter IsSmall (λ (run : Range). not (run.count == count)) (runs_over start (end - start) f)
-      (small-runs (end - start) start f (omega arith) (λ o low high. each o low (omega arith))),
-)
+small-nested : (start end count : ℕ) (f : ℕ → ℕ) → start < 2 ^ 64 → end < 2 ^ 64 → count < 2 ^ 64 → ((o : ℕ) → start ≤ o → o < end → f o < 2 ^ 64)
+    → AreSmall (nested start end count f)
+unfolding nested
+small-nested start end count f h k c each = (record { start = h; end = k; count = c }, small-nests f start end count (nest start end count f) (nests f start end count) k each)
 
 -- ---- sums
 
@@ -110,7 +109,7 @@ IsInRange key = (key.start < 2 ^ 32) × (key.end < 2 ^ 32)
 small-report : (held : List Snapshot) → fits held ≡ true → (key : Key) → IsInRange key → HasSmall (merged_report held key)
 small-report held fit key within =
     let p = both-true (nat_le (root held key) limit) (list_all (λ at. nat_le (sum_at held key at) limit) (map Offset (offsets key.start key.end))) (fits-each held fit key) in
-    small-flat key.start key.end (root held key) (total held key) (omega arith) (omega arith) (below (root held key) p.0)
+    small-nested key.start key.end (root held key) (total held key) (omega arith) (omega arith) (below (root held key) p.0)
     (λ o low high. each-total held key (key.end - key.start) key.start p.1 o low (omega arith))
 
 -- ---- the keys of snapshots
@@ -141,7 +140,7 @@ keys-in-range held h =
     held h)
 
 pub small-scripts : (held : List Snapshot) → fits held ≡ true → HasOffsets held → AllByRecursion HasAllSmall (scripts held)
-unfolding scripts
+unfolding scripts_in
 small-scripts held fit h =
     All-made (λ (url : List ℕ). Unit {0}) HasAllSmall (merged_entry held)
     (λ url t.
