@@ -1,5 +1,8 @@
 //! Which bytes are a normal file, on examples.
 use super::*;
+use cov_book::Book;
+use cov_io::{MemSink, SinkFault, SureSink};
+use cov_model::Items;
 use source_maps::{EntryBody, MapEntry};
 use std::alloc::Global;
 use std::process::Abort;
@@ -61,6 +64,8 @@ fn one_list_of_ranges_is_normal(rt: HostRuntime) -> Result<(), Fail> {
         ("0..100=3 10..20=8 30..50=5 50..60=1", true),
         ("0..100=3 10..20=3 30..50=5 50..60=1", false),
         ("0..100=3 30..50=5 10..20=7 50..60=1", false),
+        ("0..34=1 13..33=10 19..24=4 24..30=6", true),
+        ("0..34=1 13..19=10 19..24=4 24..30=6 30..33=10", false),
     ] {
         let text = text_of(alloc, ranges, BACK)?;
         check_normal(&rt, alloc, text.as_str(), normal, ranges)?;
@@ -100,6 +105,54 @@ fn one_way_of_writing_is_normal(rt: HostRuntime) -> Result<(), Fail> {
     let cut = text_of(alloc, "0..10=1", "]}]")?;
     let fault = read_normal(alloc, cut.as_bytes()).err();
     assert_eq!(rt; fault, Some(NormalFault::NotNormal));
+    Ok(())
+}
+
+/// The text of this many scripts of one function each.
+fn many_scripts(alloc: Global, count: u32) -> Result<String, Fail> {
+    let mut text = String::from_str(alloc, "{\"result\":[")?;
+    for number in 0..count {
+        let comma = if number > 0 { "," } else { "" };
+        let script = format!(in alloc;
+            "{comma}{{\"functions\":[{{\"functionName\":\"f\",\"isBlockCoverage\":true,\"ranges\":[{{\"count\":1,\"endOffset\":10,\"startOffset\":0}}]}}],\"scriptId\":\"{number}\",\"url\":\"file:///{number:05}.js\"}}"
+        )?;
+        text.push_str(script.as_str())?;
+    }
+    text.push_str("]}")?;
+    Ok(text)
+}
+
+/// Checks that a write whose call of this number fails leaves the pieces before it.
+fn check_failing(
+    rt: &impl Abort,
+    alloc: Global,
+    book: &Book,
+    text: &str,
+    call: usize,
+) -> Result<(), Fail> {
+    let mut out = MemSink::new(alloc, Items::from_slice(alloc, &[call as u64])?);
+    let answer = write_normal(alloc, book, &mut out);
+    assert!(rt; matches!(answer, Err(SinkFault::Failed)), "{call}");
+    let held = out.inner.bytes.as_slice();
+    assert_eq!(rt; held.len() / 65536, call);
+    assert!(rt; text.as_bytes().starts_with(held), "{call}");
+    Ok(())
+}
+
+#[test]
+fn five_thousand_scripts_go_in_pieces(rt: HostRuntime) -> Result<(), Fail> {
+    let alloc = rt.alloc();
+    let text = many_scripts(alloc, 5000)?;
+    let Ok(book) = read_normal(alloc, text.as_bytes()) else {
+        return Err(Fail::from("refused"));
+    };
+    let mut out = SureSink::new(alloc);
+    write_normal(alloc, &book, &mut out)?;
+    assert!(rt; out.bytes.as_slice() == text.as_bytes());
+    assert_eq!(rt; out.longest, 65536);
+    for call in 0..text.len().div_ceil(65536) {
+        check_failing(&rt, alloc, &book, text.as_str(), call)?;
+    }
     Ok(())
 }
 

@@ -1,4 +1,4 @@
-use Rattle.cov_files.proofs.normal.read_normal.Given as goal
+use Rattle.cov_files.proofs.normal.read_in.Given as goal
 
 -- the ledger of a counter that was just made
 abbrev pub ghosts-book_of : goal.ghosts-book_of
