@@ -13,7 +13,7 @@ use Rattle.cov_messages.specs.declared.reply.Reply.{Reply}
 use Rattle.cov_messages.specs.declared.reply.Reply.TheVariants.{Done, Started, Taken, Refused}
 use Rattle.cov_messages.specs.Replies.{taken_data, error_data, error_with, result_with, reply_data}
 use Rattle.cov_model.specs.declared.snapshot.Snapshot.{Snapshot}
-use Rattle.cov_model.specs.File.{range_data, report_data, entry_data, entries_data, scripts_data, result_data}
+use Rattle.cov_model.specs.File.{range_data, report_data, entry_data, entries_data, scripts_data}
 
 none-array : {A : Type 0} (data_of : A → Data) → ((x : A) → has_float (data_of x) ≡ false) → (xs : List A) → items_have_float (array_of data_of xs) ≡ false
 none-array data_of none [] = refl
@@ -31,10 +31,6 @@ none-entry k e = ap (λ b. b || false) (none-array report_data none-report e.fun
 none-entries : (k : ℕ) (es : List Entry) → items_have_float (entries_data k es) ≡ false
 none-entries k [] = refl
 none-entries k (e ∷ es) = ap (λ b. b || items_have_float (entries_data (suc k) es)) (none-entry k e) ∙ none-entries (suc k) es
-
-pub none-result : (es : List Entry) → has_float (result_data es) ≡ false
-unfolding scripts_data
-none-result es = ap (λ b. b || false) (none-entries 0 es)
 
 none-taken : (s : Snapshot) → has_float (taken_data s) ≡ false
 unfolding scripts_data
