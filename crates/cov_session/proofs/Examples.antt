@@ -1,7 +1,7 @@
 -- The worked examples, by computation.
 use Rattle.std.specs.Prelude.{refl}
 use Rattle.cov_model.proofs.Examples.{cov_on_literals}
-use Rattle.cov_session.specs.Examples.{TwoSessions, Views, OneSession, StillRuns, Resumes}
+use Rattle.cov_session.specs.Examples.{TwoSessions, Views, OneSession, StillRuns, Resumes, ClientRuns}
 
 pub two_sessions : TwoSessions
 unfolding cov_on_literals
@@ -19,3 +19,7 @@ still_runs = refl
 
 pub resumes : Resumes
 resumes = (refl, refl, refl)
+
+pub client_runs : ClientRuns
+unfolding cov_on_literals
+client_runs = (refl, refl, refl, refl)

@@ -1,17 +1,19 @@
 -- Each step of the machine keeps what holds of a target.
-use Rattle.std.proofs.Common.{◌≡◌, ℕ, zero, suc, ◌+◌, ◌-◌, ◌<◌, ◌≤◌, Bool, true, false, ◌&&◌, ◌||◌, List, [], ◌∷◌, ◌++◌, length, set, get_or, min, replicate, refl, sym, ap, ◌∙◌, subst, arith, rules, append_assoc, append-nil}
-use Rattle.std.specs.Prelude.{Option, None, Some, is_some, sum_by, count_by, nat_le, nat_lt, ◌==◌}
-use Rattle.std.specs.List.{list_any, list_all}
+use Rattle.std.proofs.Common.{◌≡◌, ℕ, zero, suc, ◌+◌, ◌-◌, ◌<◌, ◌≤◌, Bool, true, false, ◌&&◌, ◌||◌, List, [], ◌∷◌, ◌++◌, length, set, get_or, replicate, refl, sym, ap, ◌∙◌, arith, append_assoc, append-nil, length-append}
+use Rattle.std.specs.Prelude.{Option, None, Some, is_some, count_by, nat_le, ◌==◌, ◌≢◌, cond}
+use Rattle.std.specs.List.{list_all}
 use Rattle.std.proofs.lemmas.Bool.{eq-eqb}
 use Rattle.std.proofs.lemmas.Bool.Decides.{nat_tests}
-use Rattle.std.proofs.lemmas.List.Sums.{sum_by-append}
-use Rattle.std.proofs.lemmas.List.{set-get_or}
+use Rattle.std.proofs.lemmas.List.Sums.{sum_by-append, count_by-le-length}
+use Rattle.std.proofs.lemmas.List.{set-get_or, get_or-set_other, length-set, length-replicate}
+use Rattle.std.proofs.lemmas.Grind.{get_or-set_at}
 use Rattle.cov_session.specs.declared.session.Desk.{Desk}
 use Rattle.cov_messages.specs.declared.request.Flags.{Flags}
 use Rattle.cov_session.specs.declared.session.Take.{Take}
 use Rattle.cov_model.specs.declared.snapshot.Snapshot.{Snapshot}
 use Rattle.cov_session.specs.Machine.{State, state, idle_desks, runs, desk_at, is_started, idle, dropped, with_desk, dropped_unless, resumed, played_one, with_take, take_of, played_by_take, replied, size_of, stopped_after}
-use Rattle.cov_session.specs.Kept.{IsKept, is_chain, is_numbered, is_proper}
+use Rattle.cov_model.specs.Sums.{fits}
+use Rattle.cov_session.specs.Kept.{IsKept, IsSound, is_chain, is_numbered, is_proper}
 
 pub and_true : (a b : Bool) → (a && b) ≡ true → (a ≡ true) × (b ≡ true)
 and_true true b e = (refl, e)
@@ -155,4 +157,63 @@ kept_took s n p k ts kept ep ek et =
       numbered = ap (is_numbered []) et ∙ numbered-push [] s.takes t kept.numbered ek;
       tallied = omega (arith, kept.tallied, le, ap replied et, sum_by-append size_of s.takes (t ∷ []));
       proper = kept.proper;
+    }
+
+-- ---- what the fields keep
+
+pub sound_start : (tape : List Snapshot) (pace n : ℕ) (desks : List Desk) (counts : List ℕ) → desks ≡ idle_desks n → counts ≡ replicate n 0 → fits tape ≡ true
+    → IsSound (state tape pace 0 0 0 0 desks []) counts
+sound_start tape pace n desks counts e ec h =
+    record {
+      kept = kept_start tape pace n desks e;
+      fitting = h;
+      numbers = ap length ec ∙ length-replicate n 0 ∙ sym (length-replicate n idle) ∙ ap length (sym e);
+      counted = λ k. ap (λ xs. get_or xs k 0) ec ∙ no_count n k;
+    }
+  where
+    no_count : (n k : ℕ) → get_or {A = ℕ} (replicate n 0) k 0 ≡ 0
+    no_count zero k = refl
+    no_count (suc n) zero = refl
+    no_count (suc n) (suc k) = no_count n k
+
+-- where neither the tape nor the takes change
+pub sound_still : (s t : State) (counts : List ℕ) → IsSound s counts → IsKept t → t.tape ≡ s.tape → t.takes ≡ s.takes → length t.desks ≡ length s.desks → IsSound t counts
+sound_still s t counts sound kept tape takes desks =
+    record {
+      kept = kept;
+      fitting = ap fits tape ∙ sound.fitting;
+      numbers = sound.numbers ∙ sym desks;
+      counted = λ k. sound.counted k ∙ ap (count_by (λ (x : Take). x.session == k)) (sym takes);
+    }
+
+count_more : (p : Take → Bool) (ts : List Take) (t : Take) → count_by p (ts ++ t ∷ []) ≡ count_by p ts + cond (p t) 1 0
+count_more p ts t = omega (arith, sum_by-append (λ (x : Take). cond (p x) 1 0) ts (t ∷ []))
+
+pub count_below : (p : Take → Bool) (ts more : List Take) (t : Take) → more ≡ ts ++ t ∷ [] → count_by p ts < length more
+count_below p ts more t e = omega (arith, count_by-le-length p ts, ap length e, length-append ts (t ∷ []))
+
+one_more : (counts : List ℕ) (ts : List Take) (t : Take) (k : ℕ) (b : Bool) → t.session < length counts → (t.session == k) ≡ b
+    → get_or counts k 0 ≡ count_by (λ (x : Take). x.session == k) ts
+    → get_or (set counts t.session (get_or counts t.session 0 + 1)) k 0 ≡ count_by (λ (x : Take). x.session == k) ts + cond b 1 0
+one_more counts ts t k true lt e h =
+    let is : k ≡ t.session = grind (arith, nat_tests) in
+    get_or-set_at counts t.session k (get_or counts t.session 0 + 1) 0 is lt ∙ ap (λ n. get_or counts n 0 + 1) (sym is) ∙ ap (λ n. n + 1) h
+one_more counts ts t k false lt e h =
+    let other : k ≢ t.session = grind (arith, nat_tests) in
+    get_or-set_other counts t.session k (get_or counts t.session 0 + 1) 0 other ∙ h ∙ omega arith
+
+pub sound_took : (s : State) (n p k : ℕ) (ts : List Take) (counts more : List ℕ) → IsSound s counts → n < length s.desks → p ≡ played_by_take s → k ≡ get_or counts n 0
+    → ts ≡ s.takes ++ record { session = n; number = k; since = s.since; played = p } ∷ []
+    → more ≡ set counts n (k + 1)
+    → IsSound (state s.tape s.pace p p s.discarded s.unwatched s.desks ts) more
+sound_took s n p k ts counts more sound lt ep ek et em =
+    let t : Take = record { session = n; number = k; since = s.since; played = p } in
+    record {
+      kept = kept_took s n p k ts sound.kept ep (ek ∙ sound.counted n) et;
+      fitting = sound.fitting;
+      numbers = ap length em ∙ length-set counts n (k + 1) ∙ sound.numbers;
+      counted = λ j.
+          ap (λ xs. get_or xs j 0) (em ∙ ap (λ m. set counts n (m + 1)) ek)
+          ∙ one_more counts s.takes t j (n == j) (omega (arith, lt, sound.numbers)) refl (sound.counted j)
+          ∙ sym (ap (count_by (λ (x : Take). x.session == j)) et ∙ count_more (λ (x : Take). x.session == j) s.takes t);
     }

@@ -1,24 +1,22 @@
 -- Over all events, each take has the frames whose fate it is.
-use Rattle.std.proofs.Common.{◌≡◌, ℕ, zero, suc, ◌+◌, ◌-◌, ◌<◌, ◌≤◌, Bool, true, false, ◌&&◌, ◌||◌, not, List, [], ◌∷◌, ◌++◌, length, set, get_or, take, drop, min, replicate, refl, sym, ap, ◌∙◌, subst, arith, rules, append_assoc, append-nil, length-append, length-set, drop-cons}
-use Rattle.std.specs.Prelude.{Option, None, Some, is_some, nat_le, nat_lt, ◌==◌, if◌then◌else◌}
+use Rattle.std.proofs.Common.{◌≡◌, ℕ, zero, suc, ◌+◌, ◌-◌, ◌<◌, ◌≤◌, Bool, true, false, ◌&&◌, ◌||◌, not, List, [], ◌∷◌, ◌++◌, length, set, get_or, take, drop, replicate, refl, sym, ap, ◌∙◌, arith, append_assoc, append-nil, length-append, length-set, drop-cons}
+use Rattle.std.specs.Prelude.{Option, None, Some, option_map, is_some, nat_lt, ◌==◌, if◌then◌else◌}
 use Rattle.std.proofs.lemmas.Bool.Decides.{nat_tests}
 use Rattle.cov_model.specs.declared.snapshot.Snapshot.{Snapshot}
 use Rattle.cov_session.specs.declared.session.Desk.{Desk}
 use Rattle.cov_messages.specs.declared.request.Flags.{Flags}
-use Rattle.cov_session.specs.declared.session.Take.{Take}
-use Rattle.cov_messages.specs.declared.request.Command.{Command}
 use Rattle.cov_messages.specs.declared.request.Command.TheVariants as command
-use Rattle.cov_messages.specs.declared.request.ErrorCode.TheVariants.{NotEnabled, NotStarted}
-use Rattle.cov_session.specs.declared.session.Answered.{Answered}
-use Rattle.cov_session.specs.declared.session.Answered.TheVariants.{Done, Started, Taken, Refused}
+use Rattle.cov_messages.specs.declared.request.ErrorCode.TheVariants.{NotEnabled}
+use Rattle.cov_messages.specs.declared.reply.Reply.{Reply}
 use Rattle.cov_session.specs.declared.session.Event.{Event}
 use Rattle.cov_session.specs.declared.session.Event.TheVariants as event
 use Rattle.cov_session.specs.declared.session.Fate.{Fate}
 use Rattle.cov_session.specs.declared.session.Fate.TheVariants.{InReply, Discarded, Unwatched, Held}
-use Rattle.cov_session.specs.Machine.{State, start, idle_desks, runs, desk_at, is_started, idle, dropped, with_desk, dropped_unless, resumed, played_one, with_take, take_of, played_by_take, step, reply_to, started_after, taken_after, taken_reply, stopped_after, left_after, after, after_frame, after_all, answer, answers, frames, held, frame_is_left}
+use Rattle.cov_session.specs.Machine.{Done, Started, Refused, State, start, idle_desks, runs, desk_at, dropped, with_desk, dropped_unless, played_one, take_of, played_by_take, step, started_after, taken_after, taken_answer, stopped_after, left_after, after, after_all, answer, answers, frames, held, frame_is_left}
+use Rattle.cov_session.specs.View.{reply_of, replies}
 use Rattle.cov_session.specs.Kept.{IsKept, is_proper}
-use Rattle.cov_session.specs.Fates.{is_take, is_start, is_end, is_frame, decided, fate, fates, is_in_reply, picked, all_fates, settled_by, given}
-use Rattle.cov_session.specs.Laws.{block, blocks, FatesOfFrames}
+use Rattle.cov_session.specs.Fates.{is_take, is_start, is_end, is_frame, decided, fate, fates, is_in_reply, picked, all_fates, settled_by}
+use Rattle.cov_session.specs.Laws.{block, blocks}
 use Rattle.cov_session.proofs.Keeps.{kept_desk, kept_drop, kept_unwatched, kept_take, kept_start, runs-set}
 
 -- ---- picking
@@ -153,7 +151,7 @@ slow_take s k z = omega (arith, k.within, z)
 
 taken : (s : State) (n : ℕ) (f : Option Flags) → IsKept s → s.pace ≡ 0 → (desk_at s.desks n).started ≡ f → Effect s (event.Command n command.Take) (taken_after f s n)
 taken s n None k z e =
-    quiet (record { common = common_same s k z; no_take = ap is_some e; no_end = refl; no_frame = refl; since = refl; played = refl; takes = refl; silent = ap (λ g. block s.tape (Some (taken_reply g s))) e; discarded = refl; unwatched = refl })
+    quiet (record { common = common_same s k z; no_take = ap is_some e; no_end = refl; no_frame = refl; since = refl; played = refl; takes = refl; silent = ap (λ g. block s.tape (Some (taken_answer g s))) e; discarded = refl; unwatched = refl })
 taken s n (Some flags) k z e =
     let p = slow_take s k z in
     takes (record {
@@ -163,7 +161,7 @@ taken s n (Some flags) k z e =
       since = p;
       played = p;
       takes = length-append s.takes (take_of s n ∷ []);
-      told = ap (λ g. block s.tape (Some (taken_reply g s))) e ∙ ap (λ q. frames s.tape s.since q ∷ []) p;
+      told = ap (λ g. block s.tape (Some (taken_answer g s))) e ∙ ap (λ q. frames s.tape s.since q ∷ []) p;
       discarded = refl;
       unwatched = refl;
     })
@@ -422,13 +420,16 @@ counted (e ∷ es) s place kept slow =
     let c = common_of f in
     counted_by e es s place f (counted es (after s e) (suc place) c.kept c.slow)
 
-pub fates_of_frames : FatesOfFrames
-fates_of_frames tape sessions events =
+pub each_has_one : (tape : List Snapshot) (sessions : ℕ) (events : List Event) → length (fates (start tape 0 sessions) 0 events) ≡ (after_all (start tape 0 sessions) events).played
+each_has_one tape sessions events =
     let s = start tape 0 sessions in
-    let kept = kept_start tape 0 sessions (idle_desks sessions) refl in (
-      omega (arith, counted events s 0 kept refl),
-      λ k. (λ i. picked (zero_add k i) (fates s 0 events) tape) ∙ claim events s 0 kept refl k,
-    )
+    omega (arith, counted events s 0 (kept_start tape 0 sessions (idle_desks sessions) refl) refl)
+
+pub frames_of_fates : (tape : List Snapshot) (sessions : ℕ) (events : List Event) (k : ℕ)
+    → picked k (fates (start tape 0 sessions) 0 events) tape ≡ get_or (blocks tape (answers (start tape 0 sessions) events)) k []
+frames_of_fates tape sessions events k =
+    let s = start tape 0 sessions in
+    (λ i. picked (zero_add k i) (fates s 0 events) tape) ∙ claim events s 0 (kept_start tape 0 sessions (idle_desks sessions) refl) refl k
 
 -- ---- as the code calls it: the fates that are settled by an event, by what rose
 
@@ -501,8 +502,11 @@ takes_after s e kept slow = at_most (effect s e kept slow)
 
 -- ---- the loop
 
-pub answers_more : (done more : List (Option Answered)) (s t : State) (e : Event) (es : List Event) (r : Option Answered) (whole : List (Option Answered)) → done ++ answers s (e ∷ es) ≡ whole → t ≡ after s e → r ≡ answer s e → more ≡ done ++ r ∷ [] → more ++ answers t es ≡ whole
-answers_more done more s t e es r whole h et er em = (λ i. (em ∙ ap (λ x. done ++ x ∷ []) er) i ++ answers (et i) es) ∙ append_assoc done (answer s e ∷ []) (answers (after s e) es) ∙ h
+pub replies_more : (tape : List Snapshot) (done more : List (Option Reply)) (s t : State) (e : Event) (es : List Event) (r : Option Reply) (whole : List (Option Reply))
+    → done ++ replies tape (answers s (e ∷ es)) ≡ whole → t ≡ after s e → r ≡ option_map (reply_of tape) (answer s e) → more ≡ done ++ r ∷ [] → more ++ replies tape (answers t es) ≡ whole
+replies_more tape done more s t e es r whole h et er em =
+    (λ i. (em ∙ ap (λ x. done ++ x ∷ []) er) i ++ replies tape (answers (et i) es))
+    ∙ append_assoc done (option_map (reply_of tape) (answer s e) ∷ []) (replies tape (answers (after s e) es)) ∙ h
 
 pub fates_more : (done more : List Fate) (s t : State) (place : ℕ) (e : Event) (es : List Event) (whole : List Fate) → IsKept s → s.pace ≡ 0 → done ++ all_fates s place (e ∷ es) ≡ whole → t ≡ after s e → more ≡ done ++ settled_by s t place → more ++ all_fates t (place + 1) es ≡ whole
 fates_more done more s t place e es whole kept slow h et em =

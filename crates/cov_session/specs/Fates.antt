@@ -1,7 +1,5 @@
 -- What becomes of each frame.
-use Rattle.std.specs.Prelude.{ℕ, suc, ◌<◌, nat_lt, Bool, true, false, ◌&&◌, ◌||◌, not, List, [], ◌∷◌, ◌++◌, length, replicate, if◌then◌else◌, Option, None, Some, is_some, ◌==◌}
-use Rattle.cov_messages.specs.declared.request.Flags.{Flags}
-use Rattle.cov_messages.specs.declared.request.Command.{Command}
+use Rattle.std.specs.Prelude.{ℕ, suc, ◌<◌, nat_lt, Bool, true, false, ◌&&◌, ◌||◌, not, List, [], ◌∷◌, ◌++◌, length, replicate, if◌then◌else◌, is_some, ◌==◌}
 use Rattle.cov_messages.specs.declared.request.Command.TheVariants as command
 use Rattle.cov_session.specs.declared.session.Event.{Event}
 use Rattle.cov_session.specs.declared.session.Event.TheVariants as event

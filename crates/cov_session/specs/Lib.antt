@@ -4,3 +4,5 @@ pub mod Kept
 pub mod Fates
 pub mod Examples
 pub mod Laws
+pub mod Script
+pub mod Merging

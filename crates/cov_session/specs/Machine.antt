@@ -1,15 +1,14 @@
 -- The session machine: its state, and what each event changes and answers. A target runs while a session is started. The held
 -- frames are those from since up to but without played.
-use Rattle.std.specs.Prelude.{ℕ, ◌+◌, ◌-◌, Bool, true, false, ◌&&◌, not, List, [], ◌∷◌, ◌++◌, length, replicate, take, drop, set, get_or, min, nat_lt, ◌==◌, if◌then◌else◌, Option, None, Some, is_some, sum_by, count_by}
+use Rattle.std.specs.Prelude.{ℕ, ◌+◌, ◌-◌, Bool, true, false, List, [], ◌∷◌, ◌++◌, length, replicate, take, drop, set, get_or, min, nat_lt, ◌==◌, if◌then◌else◌, Option, None, Some, is_some, sum_by, count_by}
 use Rattle.std.specs.List.{list_any}
 use Rattle.cov_model.specs.declared.snapshot.Snapshot.{Snapshot}
 use Rattle.cov_messages.specs.declared.request.Flags.{Flags}
 use Rattle.cov_messages.specs.declared.request.Command.{Command}
 use Rattle.cov_messages.specs.declared.request.Command.TheVariants as command
 use Rattle.cov_session.specs.declared.session.Desk.{Desk}
+use Rattle.cov_messages.specs.declared.request.ErrorCode.{ErrorCode}
 use Rattle.cov_messages.specs.declared.request.ErrorCode.TheVariants.{NotEnabled, NotStarted}
-use Rattle.cov_session.specs.declared.session.Answered.{Answered}
-use Rattle.cov_session.specs.declared.session.Answered.TheVariants.{Done, Started, Taken, Refused}
 use Rattle.cov_session.specs.declared.session.Take.{Take}
 use Rattle.cov_session.specs.declared.session.Tally.{Tally}
 use Rattle.cov_session.specs.declared.session.Event.{Event}
@@ -119,18 +118,24 @@ step s n command.Take = taken_after (desk_at s.desks n).started s n
 step s n command.Stop = if (desk_at s.desks n).enabled then stopped_after (desk_at s.desks n).started s n true else s
 step s n command.Disable = left_after s n
 
--- ---- and the reply
+-- ---- and the answer: that of a take tells the flags, and the frames by their places on the tape
 
-abbrev pub taken_reply : Option Flags → State → Answered
-taken_reply None s = Refused NotStarted
-taken_reply (Some flags) s = Taken flags s.since (played_by_take s)
+pub data Answered : Type 0 where
+  Done : Answered
+  Started : Answered
+  Taken : Flags → ℕ → ℕ → Answered
+  Refused : ErrorCode → Answered
 
-abbrev pub reply_to : State → ℕ → Command → Answered
-reply_to s n command.Enable = Done
-reply_to s n (command.Start flags) = if (desk_at s.desks n).enabled then Started else Refused NotEnabled
-reply_to s n command.Take = taken_reply (desk_at s.desks n).started s
-reply_to s n command.Stop = if (desk_at s.desks n).enabled then Done else Refused NotEnabled
-reply_to s n command.Disable = Done
+abbrev pub taken_answer : Option Flags → State → Answered
+taken_answer None s = Refused NotStarted
+taken_answer (Some flags) s = Taken flags s.since (played_by_take s)
+
+abbrev pub answer_to : State → ℕ → Command → Answered
+answer_to s n command.Enable = Done
+answer_to s n (command.Start flags) = if (desk_at s.desks n).enabled then Started else Refused NotEnabled
+answer_to s n command.Take = taken_answer (desk_at s.desks n).started s
+answer_to s n command.Stop = if (desk_at s.desks n).enabled then Done else Refused NotEnabled
+answer_to s n command.Disable = Done
 
 -- ---- events
 
@@ -141,7 +146,7 @@ after s (event.Leave n) = left_after s n
 
 abbrev pub answer : State → Event → Option Answered
 answer s event.Frame = None
-answer s (event.Command n c) = Some (reply_to s n c)
+answer s (event.Command n c) = Some (answer_to s n c)
 answer s (event.Leave n) = None
 
 -- the state after all events, and the answer of each

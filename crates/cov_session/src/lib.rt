@@ -1,16 +1,24 @@
 //! The session machine of a replay server: what each command of a session is answered, which frames a take has, and what
 //! becomes of each frame over a whole list of events.
 //!
-//! A take is answered here with its frames named by their places on the tape (`Answered`). What is not made yet: the reply
-//! with the snapshot itself, a tape whose sums pass 64 bits refused when the target is made, and the client's script.
+//! A take is replied to with what exactly its frames come to, merged into one snapshot and seen by the session's flags. The
+//! other side of a link is the `Client`: its script of requests, and what it hears.
 #![tactic(auto)]
 
+mod client;
 mod events;
 pub mod laws;
+mod merging;
+mod seeing;
 mod session;
 mod target;
+#[cfg(test)]
+mod tests;
 
-pub use cov_messages::{Command, ErrorCode, Flags};
+pub use client::{Client, HearFault, Heard, PeerWhy};
+pub use cov_book::SumFault;
+pub use cov_messages::{Command, ErrorCode, Flags, Reply};
 pub use events::{EventRun, run_events};
-pub use session::{Answered, Desk, Event, Fate, Take, Tally};
-pub use target::Target;
+pub use seeing::viewed;
+pub use session::{Desk, Event, Fate, Take, Tally};
+pub use target::{Target, TargetFault};

@@ -1,5 +1,5 @@
 //! The words of the sessions of a target.
-use cov_messages::{Command, ErrorCode, Flags};
+use cov_messages::{Command, Flags};
 
 /// The state of one session. One that is started is enabled.
 #[derive(Clone, Copy, Debug, PartialEq, Eq)]
@@ -8,23 +8,6 @@ pub struct Desk {
     pub enabled: bool,
     /// What its last start asked for, where precise coverage is started.
     pub started: Option<Flags>,
-}
-
-/// What a command is answered, with the frames of a take named and not yet merged.
-#[derive(Clone, Copy, Debug, PartialEq, Eq)]
-pub enum Answered {
-    /// It was done, and there is nothing to tell.
-    Done,
-    /// Precise coverage was started.
-    Started,
-    /// The frames from `since` up to but without `played` are taken, to be seen by these flags.
-    Taken {
-        flags: Flags,
-        since: u64,
-        played: u64,
-    },
-    /// It was refused, and nothing changed.
-    Refused(ErrorCode),
 }
 
 /// A take: its reply has the frames from `since` up to but without `played`. `number` counts the takes of its session from 0.

@@ -1,13 +1,34 @@
 //! The target: a tape that is played frame by frame, and the sessions that take what was played.
-ghost use Rattle.std.specs.Prelude.{◌≡◌, ◌<◌, ◌≢◌, ◌+◌, ◌==◌, length, min, count_by, IfOk, OnOk, OnErr, IsOk, true};
+ghost use Rattle.std.specs.Prelude.{◌≡◌, ◌<◌, ◌≢◌, ◌+◌, length, min, replicate, None, IfOk, IfErr, OnOk, OnErr, IsOk, true};
 ghost use Rattle.cov_session.specs.Machine.{start, runs, desk_at, after_frame, frame_is_left, resumed, stopped_after};
-ghost use Rattle.cov_session.specs.Machine.{left_after, step, reply_to, idle_desks, tally_of};
+ghost use Rattle.cov_session.specs.Machine.{left_after, step, answer_to, idle_desks, tally_of};
+ghost use Rattle.cov_session.specs.View.{reply_of};
+ghost use Rattle.cov_session.specs.Merging.{tape_fault, TellsFault};
+ghost use Rattle.cov_session.specs.declared.target.TargetFault.TheVariants.{NoMemory};
 ghost use Rattle.cov_session.specs.Kept.{IsKept, is_proper};
 
-use crate::{Answered, Command, Desk, ErrorCode, Flags, Take, Tally};
+use crate::merging::{fitting, taken};
+use crate::{Command, Desk, ErrorCode, Flags, Reply, Take, Tally};
+use cov_book::SumFault;
 use cov_model::{Items, Snapshot};
 use std::alloc::{AllocError, Global};
 use std::marker::Model;
+
+/// Why there is no target of a tape.
+#[derive(Debug, Drop)]
+pub enum TargetFault {
+    /// The tape's snapshots, added in order, come to a sum past 2^64-1: the first such sum.
+    Sum(SumFault),
+    NoMemory,
+}
+
+impl From<AllocError> for TargetFault {
+    ghost from_gives = { λ _ fault. fault ≡ NoMemory };
+
+    fn from(_: AllocError) -> TargetFault {
+        TargetFault::NoMemory
+    }
+}
 
 /// A tape of snapshots that is played frame by frame, and its sessions. While a session is started the frames that are played
 /// are held, until a take has them in its reply or they are discarded. Contracts see the target as the state of the machine. What
@@ -23,19 +44,21 @@ pub struct Target {
     unwatched: u64,
     desks: Vec<Desk>,
     takes: Items<Take>,
+    // How many takes each session has had.
+    counts: Vec<u64>,
 }
 
 impl Model for Target {
     ghost use Rattle.cov_session.specs.Machine.{State, state};
-    ghost use Rattle.cov_session.specs.Kept.{IsKept};
+    ghost use Rattle.cov_session.specs.Kept.{IsSound};
 
     ghost Value = { State };
 
     ghost view = { λ t.
         state t.tape.items t.pace t.played t.since t.discarded t.unwatched t.desks.items t.takes };
 
-    ghost invariant = { λ t. IsKept
-        (state t.tape.items t.pace t.played t.since t.discarded t.unwatched t.desks.items t.takes) };
+    ghost invariant = { λ t. IsSound
+        (state t.tape.items t.pace t.played t.since t.discarded t.unwatched t.desks.items t.takes) t.counts.items };
 }
 
 fn any_started(desks: &[Desk]) -> bool
@@ -48,18 +71,6 @@ fn next_played(left: u64, played: u64, pace: u32) -> u64
     ensures { result ≡ min left (played + pace) }
 {
     left.min(played.saturating_add(pace as u64))
-}
-
-fn takes_of(takes: &[Take], session: u32) -> u64
-    ensures { result ≡ count_by (λ t. t.session == session) takes.now }
-{
-    let mut count: u64 = 0;
-    for take in takes {
-        if take.session == session {
-            count += 1;
-        }
-    }
-    count
 }
 
 fn no_desks(alloc: Global, sessions: u32) -> Result<Vec<Desk>, AllocError>
@@ -75,18 +86,33 @@ fn no_desks(alloc: Global, sessions: u32) -> Result<Vec<Desk>, AllocError>
     Ok(desks)
 }
 
+fn no_counts(alloc: Global, sessions: u32) -> Result<Vec<u64>, AllocError>
+    ensures { IfOk result (λ counts. counts.items ≡ replicate sessions 0) }
+{
+    let mut counts = Vec::new(alloc);
+    for _ in 0..sessions {
+        counts.push(0)?;
+    }
+    Ok(counts)
+}
+
 impl Target {
     /// The target at its start: nothing is played, no session is enabled, no take is listed. Each take plays up to `pace` frames
-    /// first. An `AllocError` comes only for want of memory.
+    /// first. `TargetFault::Sum` comes exactly where the tape's snapshots, added in order, come to a sum past 2^64-1, and
+    /// `TargetFault::NoMemory` only for want of memory.
     pub fn new(
         alloc: Global,
         tape: Vec<Snapshot>,
         pace: u32,
         sessions: u32,
-    ) -> Result<Target, AllocError>
-        ensures { IfOk result (λ t. t ≡ start tape.items pace sessions) }
+    ) -> Result<Target, TargetFault>
+        ensures state { IfOk result (λ t. t ≡ start tape.items pace sessions) }
+        ensures fits { OnOk result (tape_fault tape.items ≡ None) }
+        ensures sum { IfErr result (λ fault. TellsFault (tape_fault tape.items) fault) }
     {
+        fitting(alloc, &tape)?;
         let desks = no_desks(alloc, sessions)?;
+        let counts = no_counts(alloc, sessions)?;
         Ok(Target {
             tape,
             pace,
@@ -96,6 +122,7 @@ impl Target {
             unwatched: 0,
             desks,
             takes: Items::new(alloc),
+            counts,
         })
     }
 
@@ -117,26 +144,32 @@ impl Target {
         true
     }
 
-    /// What a command of a session changes, and its answer. A command that is refused changes nothing. An `AllocError` comes only
-    /// for want of memory and only of a take, and changes nothing.
-    pub fn step(&mut self, session: u32, command: &Command) -> Result<Answered, AllocError>
+    /// What a command of a session changes, and its reply. A command that is refused changes nothing. A take's snapshot is what a
+    /// book of exactly its frames comes to, as the session's flags let see it. An `AllocError` comes only for want of memory and
+    /// only of a take, and changes nothing.
+    pub fn step(
+        &mut self,
+        alloc: Global,
+        session: u32,
+        command: &Command,
+    ) -> Result<Reply, AllocError>
         requires { session < length self.old.desks }
         ensures state { OnOk result (self.new ≡ step self.old session command.now) }
-        ensures reply { IfOk result (λ r. r ≡ reply_to self.old session command.now) }
+        ensures reply { IfOk result (λ r. r ≡ reply_of self.old.tape (answer_to self.old session command.now)) }
         ensures err { OnErr result (self.new ≡ self.old) }
         ensures take { command.now ≢ Command.Take → IsOk result }
     {
         match command {
             Command::Enable => {
                 self.enable(session);
-                Ok(Answered::Done)
+                Ok(Reply::Done)
             }
             Command::Start(flags) => Ok(self.start(session, flags)),
-            Command::Take => self.take(session),
+            Command::Take => self.take(alloc, session),
             Command::Stop => Ok(self.stop(session)),
             Command::Disable => {
                 self.end(session, false);
-                Ok(Answered::Done)
+                Ok(Reply::Done)
             }
         }
     }
@@ -212,13 +245,13 @@ impl Target {
         };
     }
 
-    fn start(&mut self, session: u32, flags: &Flags) -> Answered
+    fn start(&mut self, session: u32, flags: &Flags) -> Reply
         requires { session < length self.old.desks }
         ensures state { self.new ≡ step self.old session (Command.Start flags.now) }
-        ensures reply { result ≡ reply_to self.old session (Command.Start flags.now) }
+        ensures reply { result ≡ reply_of self.old.tape (answer_to self.old session (Command.Start flags.now)) }
     {
         if !self.desks[session as usize].enabled {
-            return Answered::Refused(ErrorCode::NotEnabled);
+            return Reply::Refused(ErrorCode::NotEnabled);
         }
         self.desks[session as usize] = Desk {
             enabled: true,
@@ -226,46 +259,45 @@ impl Target {
         };
         self.discarded += self.played - self.since;
         self.since = self.played;
-        Answered::Started
+        Reply::Started
     }
 
-    fn take(&mut self, session: u32) -> Result<Answered, AllocError>
+    fn take(&mut self, alloc: Global, session: u32) -> Result<Reply, AllocError>
         requires { session < length self.old.desks }
         ensures state { OnOk result (self.new ≡ step self.old session Command.Take) }
-        ensures reply { IfOk result (λ r. r ≡ reply_to self.old session Command.Take) }
+        ensures reply { IfOk result (λ r. r ≡ reply_of self.old.tape (answer_to self.old session Command.Take)) }
         ensures err { OnErr result (self.new ≡ self.old) }
     {
         let Some(flags) = self.desks[session as usize].started else {
-            return Ok(Answered::Refused(ErrorCode::NotStarted));
+            return Ok(Reply::Refused(ErrorCode::NotStarted));
         };
         let since = self.since;
         let played = next_played(self.tape.len() as u64, self.played, self.pace);
-        let number = takes_of(self.takes.as_slice(), session);
+        let snapshot = taken(alloc, &flags, &self.tape, since, played)?;
+        let number = self.counts[session as usize];
         self.takes.push(Take {
             session,
             number,
             since,
             played,
         })?;
+        prove!(number < self.takes.len() as u64);
+        self.counts[session as usize] = number + 1;
         self.played = played;
         self.since = played;
-        Ok(Answered::Taken {
-            flags,
-            since,
-            played,
-        })
+        Ok(Reply::Taken(snapshot))
     }
 
-    fn stop(&mut self, session: u32) -> Answered
+    fn stop(&mut self, session: u32) -> Reply
         requires { session < length self.old.desks }
         ensures state { self.new ≡ step self.old session Command.Stop }
-        ensures reply { result ≡ reply_to self.old session Command.Stop }
+        ensures reply { result ≡ reply_of self.old.tape (answer_to self.old session Command.Stop) }
     {
         if !self.desks[session as usize].enabled {
-            return Answered::Refused(ErrorCode::NotEnabled);
+            return Reply::Refused(ErrorCode::NotEnabled);
         }
         self.end(session, true);
-        Answered::Done
+        Reply::Done
     }
 
     // No longer started, and enabled or not.

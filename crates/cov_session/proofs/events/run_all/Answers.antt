@@ -1,13 +1,12 @@
-use Rattle.std.proofs.Common.{◌≡◌, ℕ, ◌+◌, ◌<◌, ◌≤◌, List, ◌∷◌, ◌++◌, length, drop, get_or, refl, sym, ap, ◌∙◌, subst, arith, rules, Bool}
-use Rattle.std.specs.Prelude.{nat_lt}
-use Rattle.cov_session.specs.declared.session.Tally.{Tally}
+use Rattle.std.proofs.Common.{◌≡◌, ◌+◌, ◌<◌, List, ◌∷◌, ◌++◌, length, drop, get_or, sym, ap, ◌∙◌, subst, arith, rules}
+use Rattle.std.specs.Prelude.{nat_lt, option_map}
 use Rattle.cov_session.specs.declared.session.Event.{Event}
 use Rattle.cov_session.specs.declared.session.Event.TheVariants as event
-use Rattle.cov_session.specs.declared.session.Take.{Take}
-use Rattle.cov_session.specs.Machine.{State, answers, after, tally_of}
+use Rattle.cov_session.specs.Machine.{State, answer, answers}
+use Rattle.cov_session.specs.View.{reply_of, replies}
 use Rattle.cov_session.specs.Kept.{IsKept}
 use Rattle.cov_session.specs.Fates.{all_fates, given, settled_by}
-use Rattle.cov_session.proofs.Runs.{answers_more, fates_more, kept_after, takes_after, drop_here}
+use Rattle.cov_session.proofs.Runs.{replies_more, fates_more, kept_after, takes_after, drop_here}
 use Rattle.cov_session.proofs.events.run_all.Goals as goal
 
 pub loop-i-preserved : goal.loop-i-preserved
@@ -15,6 +14,7 @@ loop-i-preserved c =
     let s = c.loop-i.target in
     let t = c.happen.new.target in
     let at = c.loop-i.i in
+    let tape = c.args.tape.items in
     let all = c.args.events.now in
     let inv = c.loop-i.invariant in
     let et = c.in_ok-reply.ensures.state in
@@ -31,9 +31,11 @@ loop-i-preserved c =
     c.in_ok-settle.ensures
     ∙ (λ i. c.loop-i.settled.items ++ given (nat_lt (eb i).unwatched (en i).unwatched) (nat_lt (length (tk i)) (length (tn i))) (nat_lt (eb i).discarded (en i).discarded) (eb i).held (length (tk i)) at) in
     record {
-      replies = answers_more c.loop-i.replies.items c.push.new.self.items s t e es c.in_ok-reply.reply _ (ap (λ xs. c.loop-i.replies.items ++ answers s xs) (sym here) ∙ inv.replies) et c.in_ok-reply.ensures.reply c.in_ok-push.ensures.items;
+      replies = replies_more tape c.loop-i.replies c.push.new.self s t e es c.in_ok-reply.reply _ (ap (λ xs. c.loop-i.replies ++ replies tape (answers s xs)) (sym here) ∙ inv.replies) et
+          (c.in_ok-reply.ensures.reply ∙ ap (λ xs. option_map (reply_of xs) (answer s e)) inv.tape) c.in_ok-push.ensures.ok;
       fates = fates_more c.loop-i.settled.items c.settle.new.fates.items s t at e es _ inv.kept inv.slow (ap (λ xs. c.loop-i.settled.items ++ all_fates s at xs) (sym here) ∙ inv.fates) et em;
       kept = subst IsKept (sym et) next.kept;
+      tape = ap (λ (x : State). x.tape) et ∙ next.tape ∙ inv.tape;
       slow = ap (λ (x : State). x.pace) et ∙ next.slow;
       takes = omega (arith, inv.takes, ap (λ (x : State). length x.takes) et, takes_after s e inv.kept inv.slow);
       desks = ap (λ (x : State). length x.desks) et ∙ next.desks ∙ inv.desks;

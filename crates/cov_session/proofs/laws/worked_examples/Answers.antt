@@ -15,3 +15,6 @@ returns-clause-still_runs c = examples.still_runs
 
 pub returns-clause-resumes : goal.returns-clause-resumes
 returns-clause-resumes c = examples.resumes
+
+pub returns-clause-client_runs : goal.returns-clause-client_runs
+returns-clause-client_runs c = examples.client_runs
