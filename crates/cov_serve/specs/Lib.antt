@@ -1,0 +1,5 @@
+pub mod Served
+pub mod Answering
+pub mod Seats
+pub mod Going
+pub mod Serving
