@@ -1,0 +1,5 @@
+pub mod Causes
+pub mod Runs
+pub mod Sessions
+pub mod Gathered
+pub mod Steps
