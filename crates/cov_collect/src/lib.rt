@@ -2,14 +2,16 @@
 #![tactic(auto)]
 
 mod batch;
+mod collector;
 mod naming;
 mod outcome;
 mod reading;
 mod shelf;
 
 pub use batch::collect_batch;
+pub use collector::Collector;
 pub use naming::Naming;
-pub use outcome::Batch;
+pub use outcome::{Batch, Collected};
 pub use shelf::Shelf;
 
 #[cfg(test)]

@@ -1,4 +1,4 @@
-//! What a batch comes to.
+//! What texts come to.
 use cov_book::Book;
 use cov_model::{Answer, Items};
 
@@ -9,4 +9,11 @@ pub struct Batch {
     pub book: Book,
     pub answers: Items<Answer>,
     pub order: Items<u32>,
+}
+
+/// The answer to each text by its place, and the book of those that were taken.
+#[derive(Debug, Drop)]
+pub struct Collected {
+    pub book: Book,
+    pub answers: Items<Answer>,
 }
