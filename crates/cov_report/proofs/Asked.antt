@@ -1,5 +1,5 @@
 -- What is asked for, one more source or script at a time.
-use Rattle.std.proofs.Common.{◌≡◌, ◌<◌, ℕ, List, [], ◌∷◌, ◌++◌, length, take, get_or, map, refl, sym, ap, ◌∙◌, arith, add-one}
+use Rattle.std.proofs.Common.{◌≡◌, ◌<◌, ◌≤◌, ℕ, List, [], ◌∷◌, ◌++◌, length, take, get_or, map, refl, sym, ap, ◌∙◌, arith, add-one}
 use Rattle.std.specs.Prelude.{◌+◌, Option, None, Some, filter_map, flat_map, slice_get}
 use Rattle.std.specs.List.{enumerate_from}
 use Rattle.std.proofs.lemmas.List.{take_more, take_all, length-take-le, append-nil, append_assoc}
@@ -29,6 +29,10 @@ sources-more script good k name below is =
     ap (λ xs. filter_map (mapped_if_named script good) (enumerate_from 0 xs)) all
     ∙ ap (filter_map (mapped_if_named script good)) (enumerate-more 0 (take k good.map.sources) name ∙ ap (λ n. enumerate_from 0 (take k good.map.sources) ++ (n, name) ∷ []) long)
     ∙ filter_map-append (mapped_if_named script good) (enumerate_from 0 (take k good.map.sources)) ((k, name) ∷ [])
+
+pub sources-all : (script : Entry) (good : GoodMap) (k : ℕ) → length good.map.sources ≤ k
+    → sources_to script good k ≡ filter_map (mapped_if_named script good) (enumerate_from 0 good.map.sources)
+sources-all script good k past = ap (λ xs. filter_map (mapped_if_named script good) (enumerate_from 0 xs)) (take_all k good.map.sources past)
 
 -- ---- scripts
 

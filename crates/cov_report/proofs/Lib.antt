@@ -2,7 +2,6 @@ pub mod Outcomes
 pub mod Steps
 pub mod Counts
 pub mod Whole
-pub mod Fits
 pub mod Firsts
 pub mod TextIn
 pub mod Asked

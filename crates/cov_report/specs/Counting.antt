@@ -20,3 +20,9 @@ ReadCounts told before now (Err cause) = CauseCounts told before now cause
 pub record HasCounted (told : Option Files) (before now : ℕ) (old new : List Skip) : Type 0 where
   pub kept : IsFalse (has_absent new) → IsFalse (has_absent old) × (now ≡ before)
   pub untold : told ≡ None → IsTrue (has_absent new) → IsTrue (has_absent old) ⊎ Rose before now
+
+-- What a step that only reads leaves of a store: its count of faults never falls, and what it tells stays.
+pub record OnlyReads {F : Type 0} (told told_now : Option Files) (listed listed_now : F) (before now : ℕ) : Type 0 where
+  pub later : before ≤ now
+  pub files : told_now ≡ told
+  pub folders : listed_now ≡ listed

@@ -1,10 +1,9 @@
 -- A file as far as its parts are known.
-use Rattle.std.specs.Prelude.{◌≡◌, ◌≤◌, ℕ, true, List, [], ◌∷◌, ◌++◌, length, ◌==◌, Option, None, Some, Result, Ok, Err}
-use Rattle.std.specs.List.{list_all}
+use Rattle.std.specs.Prelude.{◌≡◌, ◌≤◌, ℕ, List, [], ◌∷◌, ◌++◌, length, Option, None, Some, Result, Ok, Err}
 use Rattle.cov_text.specs.Listing.{max_text}
 use Rattle.json_shapes.specs.Shapes.{◌>>=◌}
 use Rattle.utf16_lines.specs.Table.{Table}
-use Rattle.utf16_lines.specs.Lines.{lines, table_of}
+use Rattle.utf16_lines.specs.Lines.{table_of}
 use Rattle.istanbul_rules.specs.declared.part.Part.{Part}
 use Rattle.cov_report.specs.declared.answer.SkipCause.{SkipCause}
 
@@ -14,11 +13,10 @@ pub record SoFar : Type 0 where
   pub table : Table
   pub parts : List Part
 
--- The text isn't too long, and each part has a place for each of its lines.
-pub record IsFile (text : List ℕ) (table : Table) (parts : List Part) : Type 0 where
+-- The text isn't too long, and the table is that of its lines.
+pub record IsFile (text : List ℕ) (table : Table) : Type 0 where
   pub short : length text ≤ max_text
-  pub lines : length table.spans ≡ length (lines text)
-  pub fit : list_all (λ part. length part.lines == length table.spans) parts ≡ true
+  pub made : table ≡ table_of text
 
 -- a file of this text, without parts
 abbrev pub new_file : List ℕ → SoFar

@@ -15,6 +15,7 @@ use Rattle.source_maps.specs.Entries.{Said, GivenMap}
 use Rattle.source_remap.specs.Paths.{path_of, source_path}
 use Rattle.istanbul_rules.specs.declared.part.Part.{Part}
 use Rattle.istanbul_rules.specs.Parts.{direct_part, mapped_part}
+use Rattle.istanbul_rules.specs.Remapped.{MappedCode}
 use Rattle.cov_report.specs.declared.answer.SkipCause.{SkipCause}
 use Rattle.cov_report.specs.declared.answer.SkipCause.TheVariants.{NotFile, Absent, TooLong, NotUtf8, BadMap}
 use Rattle.cov_report.specs.declared.maps.GoodMap.{GoodMap}
@@ -110,6 +111,10 @@ own_text files path None = or_fault Absent (bytes_at path files) >>= text_in
 own_text files path (Some content) = short_text content
 
 -- ---- one step of the code
+
+-- what the parts of a script's sources are made of
+abbrev pub mapped_code : Entry → GoodMap → MappedCode
+mapped_code script good = record { generated = good.generated; segments = good.map.segments; functions = script.functions }
 
 -- what a source asks for, in a list
 abbrev pub asked_at : Entry → GoodMap → ℕ × Option (List ℕ) → List Asked

@@ -1,12 +1,12 @@
 //! Asking for a script without a map, and for each source of a script with one.
-ghost use Rattle.std.specs.Prelude.{◌≡◌, ◌≤◌, ℕ, List, [], ◌∷◌, ◌++◌, Some, slice_get, option_and_then, IfOk, IfErr, OnOk, is_some, true};
+ghost use Rattle.std.specs.Prelude.{◌≡◌, ℕ, List, [], ◌∷◌, ◌++◌, Some, slice_get, option_and_then, IfOk, IfErr, OnOk, is_some, true};
 ghost use Rattle.cov_io.specs.Causes.{Rose};
 ghost use Rattle.cov_io.specs.Told.{WhereTold};
 ghost use Rattle.source_maps.specs.Entries.{said_body};
 ghost use Rattle.cov_report.specs.Wanted as wanted;
 ghost use Rattle.cov_report.specs.Wanted.{Asked};
 ghost use Rattle.cov_report.specs.Gathering.{Gathers};
-ghost use Rattle.cov_report.specs.Counting.{HasCounted};
+ghost use Rattle.cov_report.specs.Counting.{HasCounted, OnlyReads};
 ghost use Rattle.cov_report.specs.declared.answer.ReportFault.TheVariants.{Failed};
 
 use crate::gathering::Gathered;
@@ -16,7 +16,7 @@ use crate::{ReportFault, SkipCause};
 use cov_io::Store;
 use cov_model::Entry;
 use cov_text::Text;
-use istanbul_rules::{direct_part, mapped_part};
+use istanbul_rules::{Remapped, direct_part};
 use source_maps::{EntryBody, SourceMap};
 use source_remap::{path_of, source_path};
 use std::alloc::{AllocError, Global};
@@ -32,9 +32,7 @@ pub fn ask_script<S: Store>(
         → Gathers told earlier gathered.old → Gathers told (earlier ++ wanted.direct script.now ∷ []) gathered.new)) }
     ensures counted { OnOk result (HasCounted (S.files store.old) (S.faults store.old) (S.faults store.new) gathered.old.skips gathered.new.skips) }
     ensures failed { IfErr result (λ fault. fault ≡ Failed → Rose (S.faults store.old) (S.faults store.new)) }
-    ensures later { S.faults store.old ≤ S.faults store.new }
-    ensures files { S.files store.new ≡ S.files store.old }
-    ensures folders { S.folders store.new ≡ S.folders store.old }
+    ensures store { OnlyReads (S.files store.old) (S.files store.new) (S.folders store.old) (S.folders store.new) (S.faults store.old) (S.faults store.new) }
 {
     let url = script.url.as_text();
     let Some(path) = path_of(alloc, url)? else {
@@ -64,9 +62,7 @@ pub fn ask_sources<S: Store>(
         → Gathers told (earlier ++ wanted.sources_asked script.now (option_and_then wanted.good_map (said_body body.now))) gathered.new)) }
     ensures counted { OnOk result (HasCounted (S.files store.old) (S.faults store.old) (S.faults store.new) gathered.old.skips gathered.new.skips) }
     ensures failed { IfErr result (λ fault. fault ≡ Failed → Rose (S.faults store.old) (S.faults store.new)) }
-    ensures later { S.faults store.old ≤ S.faults store.new }
-    ensures files { S.files store.new ≡ S.files store.old }
-    ensures folders { S.folders store.new ≡ S.folders store.old }
+    ensures store { OnlyReads (S.files store.old) (S.files store.new) (S.folders store.old) (S.folders store.new) (S.faults store.old) (S.faults store.new) }
 {
     match good_map(alloc, body)? {
         Some(good) => ask_each(alloc, store, gathered, script, &good),
@@ -89,12 +85,16 @@ fn ask_each<S: Store>(
         → Gathers told (earlier ++ wanted.sources_asked script.now (Some good.now)) gathered.new)) }
     ensures counted { OnOk result (HasCounted (S.files store.old) (S.faults store.old) (S.faults store.new) gathered.old.skips gathered.new.skips) }
     ensures failed { IfErr result (λ fault. fault ≡ Failed → Rose (S.faults store.old) (S.faults store.new)) }
-    ensures later { S.faults store.old ≤ S.faults store.new }
-    ensures files { S.files store.new ≡ S.files store.old }
-    ensures folders { S.folders store.new ≡ S.folders store.old }
+    ensures store { OnlyReads (S.files store.old) (S.files store.new) (S.folders store.old) (S.folders store.new) (S.faults store.old) (S.faults store.new) }
 {
+    let remapped = Remapped::of(
+        alloc,
+        &good.generated,
+        &good.map,
+        script.functions.as_slice(),
+    )?;
     for (k, name) in good.map.sources().iter().enumerate() {
-        if let Err(fault) = ask_place(alloc, store, gathered, script, good, k, name) {
+        if let Err(fault) = ask_place(alloc, store, gathered, script, good, &remapped, k, name) {
             return Err(fault);
         }
     }
@@ -108,18 +108,18 @@ fn ask_place<S: Store>(
     gathered: &mut Gathered,
     script: &Entry,
     good: &GoodMap,
+    remapped: &Remapped,
     k: usize,
     name: &Option<Text>,
 ) -> Result<(), ReportFault>
-    requires { slice_get good.now.map.sources k ≡ Some name.now }
+    requires source { slice_get good.now.map.sources k ≡ Some name.now }
+    requires remapped { remapped.now ≡ wanted.mapped_code script.now good.now }
     ensures gathers { OnOk result (WhereTold (S.files store.old) (λ told. (earlier : List Asked)
         → Gathers told earlier gathered.old
         → Gathers told (earlier ++ wanted.asked_at script.now good.now (k, name.now)) gathered.new)) }
     ensures counted { OnOk result (HasCounted (S.files store.old) (S.faults store.old) (S.faults store.new) gathered.old.skips gathered.new.skips) }
     ensures failed { IfErr result (λ fault. fault ≡ Failed → Rose (S.faults store.old) (S.faults store.new)) }
-    ensures later { S.faults store.old ≤ S.faults store.new }
-    ensures files { S.files store.new ≡ S.files store.old }
-    ensures folders { S.folders store.new ≡ S.folders store.old }
+    ensures store { OnlyReads (S.files store.old) (S.files store.new) (S.folders store.old) (S.folders store.new) (S.faults store.old) (S.faults store.new) }
 {
     if k > u32::MAX as usize {
         return Ok(());
@@ -132,6 +132,7 @@ fn ask_place<S: Store>(
             gathered,
             script,
             good,
+            remapped,
             k as u32,
             name.as_text(),
         ),
@@ -145,18 +146,18 @@ fn ask_source<S: Store>(
     gathered: &mut Gathered,
     script: &Entry,
     good: &GoodMap,
+    remapped: &Remapped,
     k: u32,
     name: &str,
 ) -> Result<(), ReportFault>
-    requires { slice_get good.now.map.sources k ≡ Some (Some name.now) }
+    requires source { slice_get good.now.map.sources k ≡ Some (Some name.now) }
+    requires remapped { remapped.now ≡ wanted.mapped_code script.now good.now }
     ensures gathers { OnOk result (WhereTold (S.files store.old) (λ told. (earlier : List Asked)
         → Gathers told earlier gathered.old
         → Gathers told (earlier ++ wanted.mapped script.now good.now k name.now ∷ []) gathered.new)) }
     ensures counted { OnOk result (HasCounted (S.files store.old) (S.faults store.old) (S.faults store.new) gathered.old.skips gathered.new.skips) }
     ensures failed { IfErr result (λ fault. fault ≡ Failed → Rose (S.faults store.old) (S.faults store.new)) }
-    ensures later { S.faults store.old ≤ S.faults store.new }
-    ensures files { S.files store.new ≡ S.files store.old }
-    ensures folders { S.folders store.new ≡ S.folders store.old }
+    ensures store { OnlyReads (S.files store.old) (S.files store.new) (S.folders store.old) (S.folders store.new) (S.faults store.old) (S.faults store.new) }
 {
     let content = content_of(&good.map, k);
     let url = script.url.as_text();
@@ -166,15 +167,7 @@ fn ask_source<S: Store>(
     };
     match taken(alloc, store, &mut gathered.files, &path, content)? {
         Ok(file) => {
-            let functions = script.functions.as_slice();
-            let part = mapped_part(
-                alloc,
-                file.table(),
-                &good.generated,
-                &good.map,
-                k,
-                functions,
-            )?;
+            let part = remapped.part(alloc, file.table(), k)?;
             gathered.put(path, file, part)?;
         }
         Err(cause) => gathered.skip(alloc, name, cause)?,

@@ -8,13 +8,13 @@ ghost use Rattle.cov_report.specs.Gathering.{coverage_at};
 
 use cov_text::{Items, Text};
 use istanbul_json::FileCoverage;
-use istanbul_rules::{Part, file_coverage};
+use istanbul_rules::{Part, file_coverage_by};
 use std::alloc::{AllocError, Global};
 use std::collections::BTreeMap;
 use std::marker::Model;
 use utf16_lines::LineTable;
 
-/// The text of a path, its lines, and the parts that it has got. Each part has a place for each line.
+/// The text of a path, its lines, and the parts that it has got.
 #[derive(Debug, Drop)]
 pub struct PathFile {
     text: Text,
@@ -29,7 +29,7 @@ impl Model for PathFile {
 
     ghost view = { λ f. record { text = f.text; table = f.table; parts = f.parts } };
 
-    ghost invariant = { λ f. IsFile f.text f.table f.parts };
+    ghost invariant = { λ f. IsFile f.text f.table };
 }
 
 impl PathFile {
@@ -52,7 +52,6 @@ impl PathFile {
 
     /// The file with one part more, behind the others.
     pub fn with_part(self, part: Part) -> Result<PathFile, AllocError>
-        requires { length part.lines ≡ length self.table.spans }
         ensures { IfOk result (λ made. made ≡ with_part self part) }
     {
         let PathFile {
@@ -68,7 +67,13 @@ impl PathFile {
     fn coverage(&self, alloc: Global, path: &str) -> Result<FileCoverage, AllocError>
         ensures { IfOk result (λ found. found ≡ file.file_coverage path.now self.now.text self.now.parts) }
     {
-        file_coverage(alloc, path, self.text.as_text(), self.parts.as_slice())
+        file_coverage_by(
+            alloc,
+            path,
+            self.text.as_text(),
+            &self.table,
+            self.parts.as_slice(),
+        )
     }
 }
 

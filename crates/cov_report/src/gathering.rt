@@ -1,5 +1,5 @@
 //! What is gathered for a report, script by script.
-ghost use Rattle.std.specs.Prelude.{◌≡◌, [], ◌∷◌, ◌++◌, ℕ, List, Some, if◌then◌else◌, OnOk, length};
+ghost use Rattle.std.specs.Prelude.{◌≡◌, [], ◌∷◌, ◌++◌, ℕ, List, Some, if◌then◌else◌, OnOk};
 ghost use Rattle.std.specs.BTreeMap.{get, is_at, IsEmpty};
 ghost use Rattle.cov_text.specs.Listing.{text_cmp};
 ghost use Rattle.cov_report.specs.SoFar.{with_part};
@@ -42,7 +42,6 @@ impl Gathered {
 
     /// Puts a file with one part more at its path.
     pub fn put(&mut self, path: Text, file: PathFile, part: Part) -> Result<(), AllocError>
-        requires { length part.lines ≡ length file.table.spans }
         ensures files { OnOk result ((q : List ℕ) → get text_cmp self.new.files q
             ≡ (if is_at (text_cmp path) q then Some (with_part file part) else get text_cmp self.old.files q)) }
         ensures skips { self.new.skips ≡ self.old.skips }

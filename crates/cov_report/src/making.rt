@@ -11,7 +11,7 @@ ghost use Rattle.cov_report.specs.First.{ArePlaces};
 ghost use Rattle.cov_report.specs.Report.{report};
 ghost use Rattle.cov_report.specs.Skips.{has_absent};
 ghost use Rattle.cov_report.specs.Gathering.{Gathers};
-ghost use Rattle.cov_report.specs.Counting.{HasCounted};
+ghost use Rattle.cov_report.specs.Counting.{HasCounted, OnlyReads};
 ghost use Rattle.cov_report.specs.declared.answer.ReportFault.TheVariants.{Failed};
 
 use crate::asking::{ask_script, ask_sources};
@@ -30,8 +30,10 @@ use std::collections::BTreeMap;
 ///
 /// Of the entries of a url the first counts. A script without one has a part of the file that its url names; a script with
 /// one has a part of each named source of its map, which has the content that the map gives or else the file that the
-/// source names. A path has the text that was read for it first, and each file is read once. What has no path, no text or
-/// no good map is left out with its cause.
+/// source names. A path has the first good text that comes for it, and its file isn't read again behind that. What has no
+/// path, no text or no good map is left out with its cause.
+///
+/// Takes time by the texts, the segments of the maps and the ranges, times a logarithm.
 ///
 /// # Errors
 ///
@@ -74,9 +76,7 @@ fn gather<'a, S: Store>(
         → Gathers told (earlier ++ asked scripts.now (map said entries.now)) gathered.new)) }
     ensures counted { OnOk result (HasCounted (S.files store.old) (S.faults store.old) (S.faults store.new) gathered.old.skips gathered.new.skips) }
     ensures failed { IfErr result (λ fault. fault ≡ Failed → Rose (S.faults store.old) (S.faults store.new)) }
-    ensures later { S.faults store.old ≤ S.faults store.new }
-    ensures files { S.files store.new ≡ S.files store.old }
-    ensures folders { S.folders store.new ≡ S.folders store.old }
+    ensures store { OnlyReads (S.files store.old) (S.files store.new) (S.folders store.old) (S.folders store.new) (S.faults store.old) (S.faults store.new) }
 {
     let places = first_places(alloc, entries)?;
     for script in scripts {
@@ -102,9 +102,7 @@ fn ask<'a, S: Store>(
         → Gathers told (earlier ++ asked_by script.now (entry_for (map said entries.now) script.now.url)) gathered.new)) }
     ensures counted { OnOk result (HasCounted (S.files store.old) (S.faults store.old) (S.faults store.new) gathered.old.skips gathered.new.skips) }
     ensures failed { IfErr result (λ fault. fault ≡ Failed → Rose (S.faults store.old) (S.faults store.new)) }
-    ensures later { S.faults store.old ≤ S.faults store.new }
-    ensures files { S.files store.new ≡ S.files store.old }
-    ensures folders { S.folders store.new ≡ S.folders store.old }
+    ensures store { OnlyReads (S.files store.old) (S.files store.new) (S.folders store.old) (S.folders store.new) (S.faults store.old) (S.faults store.new) }
 {
     match entry_of(entries, places, script.url.as_text()) {
         Some(entry) => ask_sources(alloc, store, gathered, script, &entry.body),

@@ -6,7 +6,7 @@ ghost use Rattle.cov_io.specs.Told.{WhereTold};
 ghost use Rattle.cov_text.specs.Listing.{max_text, text_cmp};
 ghost use Rattle.cov_report.specs.Wanted as wanted;
 ghost use Rattle.cov_report.specs.SoFar.{taken_from};
-ghost use Rattle.cov_report.specs.Counting.{ReadCounts};
+ghost use Rattle.cov_report.specs.Counting.{ReadCounts, OnlyReads};
 ghost use Rattle.cov_report.specs.declared.answer.ReportFault.TheVariants.{Failed};
 
 use crate::files::PathFile;
@@ -43,9 +43,7 @@ fn read_text<S: Store>(
     ensures short { IfOk result (λ own. IfOk own (λ text. length text ≤ max_text)) }
     ensures counts { IfOk result (λ own. ReadCounts (S.files store.old) (S.faults store.old) (S.faults store.new) own) }
     ensures failed { IfErr result (λ fault. fault ≡ Failed → Rose (S.faults store.old) (S.faults store.new)) }
-    ensures later { S.faults store.old ≤ S.faults store.new }
-    ensures files { S.files store.new ≡ S.files store.old }
-    ensures folders { S.folders store.new ≡ S.folders store.old }
+    ensures store { OnlyReads (S.files store.old) (S.files store.new) (S.folders store.old) (S.folders store.new) (S.faults store.old) (S.faults store.new) }
 {
     match store.read(alloc, path, MOST) {
         Ok(bytes) => Ok(text_in(bytes)),
@@ -77,9 +75,7 @@ fn own_text<S: Store>(
     ensures short { IfOk result (λ own. IfOk own (λ text. length text ≤ max_text)) }
     ensures counts { IfOk result (λ own. ReadCounts (S.files store.old) (S.faults store.old) (S.faults store.new) own) }
     ensures failed { IfErr result (λ fault. fault ≡ Failed → Rose (S.faults store.old) (S.faults store.new)) }
-    ensures later { S.faults store.old ≤ S.faults store.new }
-    ensures files { S.files store.new ≡ S.files store.old }
-    ensures folders { S.folders store.new ≡ S.folders store.old }
+    ensures store { OnlyReads (S.files store.old) (S.files store.new) (S.folders store.old) (S.folders store.new) (S.faults store.old) (S.faults store.new) }
 {
     match content {
         None => read_text(alloc, store, path),
@@ -103,9 +99,7 @@ pub fn taken<S: Store>(
     ensures others { (q : List ℕ) → get text_cmp files.new q ≡ (if is_at (text_cmp path.now) q then None else get text_cmp files.old q) }
     ensures counts { IfOk result (λ found. ReadCounts (S.files store.old) (S.faults store.old) (S.faults store.new) found) }
     ensures failed { IfErr result (λ fault. fault ≡ Failed → Rose (S.faults store.old) (S.faults store.new)) }
-    ensures later { S.faults store.old ≤ S.faults store.new }
-    ensures files { S.files store.new ≡ S.files store.old }
-    ensures folders { S.folders store.new ≡ S.folders store.old }
+    ensures store { OnlyReads (S.files store.old) (S.files store.new) (S.folders store.old) (S.folders store.new) (S.faults store.old) (S.faults store.new) }
 {
     if let Some(file) = files.remove(path) {
         return Ok(Ok(file));

@@ -1,5 +1,5 @@
 -- Where a comment stands on a line.
-use Rattle.std.proofs.Common.{◌≡◌, ℕ, zero, suc, ◌+◌, ◌-◌, ◌*◌, ◌^◌, ◌<◌, ◌≤◌, Bool, true, false, cond, List, [], ◌∷◌, ◌++◌, length, get_or, take, drop, refl, sym, ap, ◌∙◌, subst, arith, ◌↔◌, add-one, length-drop}
+use Rattle.std.proofs.Common.{◌≡◌, ℕ, zero, suc, ◌+◌, ◌-◌, ◌*◌, ◌^◌, ◌<◌, ◌≤◌, Bool, true, false, cond, List, [], ◌∷◌, ◌++◌, length, get_or, take, drop, refl, sym, ap, ◌∙◌, arith, ◌↔◌, add-one, length-drop}
 use Rattle.std.specs.Prelude.{Option, None, Some, fold, max, nat_le, ◌&&◌, ◌||◌, codes}
 use Rattle.std.specs.List.{list_all, prefix_len, cons_option, between}
 use Rattle.std.specs.Char.{is_ascii_digit}
@@ -10,8 +10,7 @@ use Rattle.std.proofs.Math.Nat.{pow-le-pow_right}
 use Rattle.std.proofs.lemmas.Bool.Decides.{Decides-eqb}
 use Rattle.std.proofs.lemmas.Slice.Eq.{starts_is}
 use Rattle.cov_text.specs.Listing.{begins_with}
-use Rattle.istanbul_rules.specs.Ignored.{tails, contains, nexts, next_here, spelt, number_before_end}
-use Rattle.istanbul_rules.specs.Walk.{covered}
+use Rattle.istanbul_rules.specs.Ignored.{contains, nexts, next_here, spelt, number_before_end}
 
 begins-front : (front text : List ℕ) → begins_with front text ≡ true → text ≡ front ++ drop (length front) text
 begins-front front text e = (starts_is Decides-eqb text front (begins_with front text) refl).0 e

@@ -1,5 +1,5 @@
 -- The greatest of a list that is walked.
-use Rattle.std.proofs.Common.{◌≡◌, ℕ, ◌+◌, ◌<◌, List, [], ◌∷◌, length, get_or, drop, refl, sym, ap, ◌∙◌}
+use Rattle.std.proofs.Common.{◌≡◌, ℕ, ◌+◌, ◌<◌, List, ◌∷◌, length, get_or, drop, sym, ap, ◌∙◌}
 use Rattle.std.specs.Prelude.{Option, None, Some, max, map, fold}
 use Rattle.istanbul_rules.specs.Parts.{greatest}
 use Rattle.istanbul_rules.proofs.Lists.{rest_from}

@@ -1,7 +1,7 @@
 -- Lists whose elements are given their places as keys.
-use Rattle.std.proofs.Common.{◌≡◌, ℕ, zero, suc, ◌+◌, ◌-◌, ◌^◌, ◌<◌, ◌≤◌, Bool, true, false, cond, List, [], ◌∷◌, ◌++◌, length, get_or, drop, refl, sym, ap, ◌∙◌, arith, append_assoc, add-one, length-append}
-use Rattle.std.specs.Prelude.{Option, None, Some, map, filter, flat_map, decimal, not, slice_get, unwrap_or, ◌==◌, option_map}
-use Rattle.std.specs.List.{list_all, enumerate_from, filter_map, cons_option}
+use Rattle.std.proofs.Common.{◌≡◌, ℕ, zero, suc, ◌+◌, ◌-◌, ◌<◌, ◌≤◌, Bool, true, false, cond, List, [], ◌∷◌, ◌++◌, length, get_or, drop, refl, sym, ap, ◌∙◌, arith, append_assoc, add-one, length-append}
+use Rattle.std.specs.Prelude.{Option, None, Some, filter, flat_map, decimal, not, unwrap_or, ◌==◌, option_map}
+use Rattle.std.specs.List.{list_all, filter_map, cons_option}
 use Rattle.std.specs.Str.Lines.{lines, lines_of_parts}
 use Rattle.std.specs.List.{slice_split}
 use Rattle.std.proofs.lemmas.List.{at_drop_more, length-map}

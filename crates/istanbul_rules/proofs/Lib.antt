@@ -3,6 +3,7 @@ pub mod Lists
 pub mod Greatest
 pub mod Offsets
 pub mod Painted
+pub mod Spans
 pub mod Lines
 pub mod Comments
 pub mod Walked

@@ -1,5 +1,5 @@
 -- The lines of a table, and offsets, as stretches in order.
-use Rattle.std.proofs.Common.{◌≡◌, ℕ, suc, ◌+◌, ◌-◌, ◌<◌, ◌≤◌, Bool, true, false, cond, List, [], ◌∷◌, ◌++◌, length, get_or, drop, refl, sym, ap, ◌∙◌, subst, subst₂, arith, inl, inr, ◌⊎◌}
+use Rattle.std.proofs.Common.{◌≡◌, ℕ, suc, ◌+◌, ◌<◌, ◌≤◌, Bool, true, false, cond, List, [], ◌∷◌, length, get_or, refl, sym, ap, subst, subst₂, arith, inl, inr, ◌⊎◌}
 use Rattle.std.specs.Prelude.{map, slice_get, Option, Some, None, option_map, filter, nat_lt}
 use Rattle.std.specs.List.Sorted.{IsNonDecreasing, IsNonDecreasingBy}
 use Rattle.std.proofs.lemmas.Bool.{cases_lt}

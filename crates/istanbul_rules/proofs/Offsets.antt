@@ -1,15 +1,19 @@
 -- Offsets in order, and the counts there.
-use Rattle.std.proofs.Common.{◌≡◌, ℕ, zero, suc, ◌+◌, ◌<◌, ◌≤◌, Bool, true, false, List, [], ◌∷◌, ◌++◌, length, get_or, drop, refl, sym, ap, ◌∙◌, subst, arith, inl, inr}
-use Rattle.std.specs.Prelude.{map, filter, nat_lt, nat_le, ◌&&◌}
-use Rattle.std.specs.List.{All, Contains, concat}
+use Rattle.std.proofs.Common.{◌≡◌, ℕ, zero, suc, ◌+◌, ◌<◌, ◌≤◌, true, false, List, [], ◌∷◌, ◌++◌, length, get_or, drop, refl, sym, ap, ◌∙◌, subst, arith, append_assoc, inl, inr}
+use Rattle.std.specs.Prelude.{map, flat_map, filter, nat_lt, nat_le, ◌&&◌}
+use Rattle.std.specs.List.{All, Contains}
 use Rattle.std.specs.List.Sorted.{IsNonDecreasing, IsPartitionPoint, IsPermutation}
 use Rattle.std.proofs.lemmas.Bool.{cases_lt, lt-ltb, le-ltb, le-leb, lt-leb, ltb-true, ltb-false}
-use Rattle.std.proofs.lemmas.List.{get_or_default, get_or-map, append-nil, drop_all}
-use Rattle.std.proofs.lemmas.List.Elements.{Contains-append_left, Contains-append_right, Contains-get_or}
+use Rattle.std.proofs.lemmas.List.{get_or_default, get_or-map, length-map, append-nil, drop_all}
+use Rattle.std.proofs.lemmas.List.Elements.{All-filter, All-map, Contains-append_left, Contains-append_right, Contains-get_or}
 use Rattle.std.proofs.lemmas.List.Sorted.{Contains-permutation}
 use Rattle.cov_model.specs.Nesting.{has_offset}
 use Rattle.cov_model.specs.declared.report.Range.{Range}
-use Rattle.cov_text.specs.Listing.{last_or}
+use Rattle.cov_text.specs.Listing.{counted, last_or}
+use Rattle.source_remap.specs.declared.lines.Landing.{Landing}
+use Rattle.source_remap.specs.Columns.{leftmost_on}
+use Rattle.source_remap.specs.Groups.{of_source}
+use Rattle.istanbul_rules.proofs.Lists.{rest_from}
 use Rattle.istanbul_rules.specs.Painting.{covers, count_over, stretch_at}
 use Rattle.istanbul_rules.specs.Parts.{count_at}
 
@@ -43,17 +47,46 @@ first_is xs o i sorted parts there d =
 
 -- ---- all offsets
 
-pub all_in : (anchors : List (List ℕ)) → All (All (Contains (concat anchors))) anchors
-all_in [] k d lt i e within = absurd (omega arith)
-all_in (offsets ∷ anchors) zero d lt i e within = Contains-append_left offsets (concat anchors) (get_or offsets i e) (Contains-get_or offsets i e within)
-all_in (offsets ∷ anchors) (suc k) d lt i e within = Contains-append_right offsets (concat anchors) (get_or (get_or anchors k d) i e) (all_in anchors k d (omega arith) i e within)
+-- of all landings
+abbrev pub all_offsets : List (List Landing) → List ℕ
+all_offsets lists = flat_map (map (λ (l : Landing). l.offset)) lists
 
-pub all_found : (anchors : List (List ℕ)) (k : ℕ) (before sorted : List ℕ) → length anchors ≤ k → before ++ concat (drop k anchors) ≡ concat anchors → IsPermutation before sorted
-    → All (All (Contains sorted)) anchors
-all_found anchors k before sorted done so_far moved i d lt j e within =
-    let x = get_or (get_or anchors i d) j e in
-    let all : concat anchors ≡ before = sym so_far ∙ ap (λ rest. before ++ concat rest) (drop_all k anchors done) ∙ append-nil before in
-    Contains-permutation before sorted x moved (subst (λ xs. Contains xs x) all (all_in anchors i d lt j e within))
+pub offsets-more : (lists : List (List Landing)) (i : ℕ) (d : List Landing) (before after all : List ℕ) → i < length lists → after ≡ before ++ map (λ (l : Landing). l.offset) (get_or lists i d)
+    → before ++ all_offsets (drop i lists) ≡ all → after ++ all_offsets (drop (i + 1) lists) ≡ all
+offsets-more lists i d before after all lt grown so_far =
+    ap (λ xs. xs ++ all_offsets (drop (i + 1) lists)) grown
+    ∙ append_assoc before (map (λ (l : Landing). l.offset) (get_or lists i d)) (all_offsets (drop (i + 1) lists))
+    ∙ ap (λ rest. before ++ all_offsets rest) (sym (rest_from lists i d lt))
+    ∙ so_far
+
+all_in : (lists : List (List Landing)) (source : ℕ) → All (Contains (all_offsets lists)) (map (λ (l : Landing). l.offset) (of_source lists source))
+all_in [] source = λ k d lt. absurd (omega arith)
+all_in (list ∷ lists) zero =
+    λ k d lt. Contains-append_left (map (λ (l : Landing). l.offset) list) (all_offsets lists) (get_or (map (λ (l : Landing). l.offset) list) k d)
+    (Contains-get_or (map (λ (l : Landing). l.offset) list) k d lt)
+all_in (list ∷ lists) (suc source) =
+    λ k d lt. Contains-append_right (map (λ (l : Landing). l.offset) list) (all_offsets lists) (get_or (map (λ (l : Landing). l.offset) (of_source lists source)) k d)
+    (all_in lists source k d lt)
+
+pub all_found : (lists : List (List Landing)) (k : ℕ) (before sorted : List ℕ) → length lists ≤ k → before ++ all_offsets (drop k lists) ≡ all_offsets lists → IsPermutation before sorted
+    → (source : ℕ) → All (Contains sorted) (map (λ (l : Landing). l.offset) (of_source lists source))
+all_found lists k before sorted done so_far moved source i d lt =
+    let x = get_or (map (λ (l : Landing). l.offset) (of_source lists source)) i d in
+    let all : all_offsets lists ≡ before = sym so_far ∙ ap (λ rest. before ++ all_offsets rest) (drop_all k lists done) ∙ append-nil before in
+    Contains-permutation before sorted x moved (subst (λ xs. Contains xs x) all (all_in lists source i d lt))
+
+-- those of the leftmost of a line are of those of all
+pub leftmost_within : (offsets : List ℕ) (ls : List Landing) (start n : ℕ) → All (Contains offsets) (map (λ (l : Landing). l.offset) ls)
+    → All (All (Contains offsets)) (map (leftmost_on ls) (counted start n))
+leftmost_within offsets ls start n within =
+    All-map (All (Contains offsets)) (leftmost_on ls) (counted start n) (λ k d lt.
+    All-map (Contains offsets) (λ (l : Landing). l.offset) _
+    (All-filter _ (λ (l : Landing). Contains offsets l.offset) _ (All-filter _ (λ (l : Landing). Contains offsets l.offset) ls (unmapped offsets ls within))))
+  where
+    unmapped : (offsets : List ℕ) (ls : List Landing) → All (Contains offsets) (map (λ (l : Landing). l.offset) ls) → All (λ (l : Landing). Contains offsets l.offset) ls
+    unmapped offsets ls within k d lt =
+        let many = length-map ls (λ (l : Landing). l.offset) in
+        subst (Contains offsets) (get_or-map (λ (l : Landing). l.offset) ls k d d.offset lt) (within k d.offset (omega arith))
 
 -- ---- counts
 

@@ -1,6 +1,6 @@
 -- One more line of a walk over the lines.
-use Rattle.std.proofs.Common.{◌≡◌, ℕ, zero, suc, ◌+◌, ◌-◌, ◌<◌, ◌≤◌, Bool, true, false, cond, List, [], ◌∷◌, ◌++◌, length, refl, sym, ap, ◌∙◌, subst, arith, take, drop, length-append, length-drop, inl, inr}
-use Rattle.std.specs.Prelude.{map, max, not, ◌&&◌, ◌||◌, nat_le, nat_lt, fold, slice_get}
+use Rattle.std.proofs.Common.{◌≡◌, ℕ, zero, suc, ◌+◌, ◌-◌, ◌<◌, ◌≤◌, Bool, true, false, List, [], ◌∷◌, ◌++◌, length, refl, sym, ap, ◌∙◌, subst, arith, take, drop, length-append, length-drop, inl, inr}
+use Rattle.std.specs.Prelude.{map, max, not, ◌&&◌, ◌||◌, nat_le, nat_lt, fold}
 use Rattle.std.specs.List.{list_any, between}
 use Rattle.std.proofs.lemmas.Bool.{cases_lt, lt-ltb, le-ltb, le-leb, lt-leb}
 use Rattle.std.proofs.lemmas.List.{map-append, take_all, take-append-le, drop-append-le}

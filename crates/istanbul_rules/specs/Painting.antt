@@ -1,5 +1,5 @@
 -- The counts of stretches of a text, by ranges in order.
-use Rattle.std.specs.Prelude.{◌≡◌, ℕ, ◌+◌, Bool, ◌&&◌, ◌≤◌, List, [], ◌∷◌, length, map, nat_le, filter}
+use Rattle.std.specs.Prelude.{◌≡◌, ℕ, ◌+◌, Bool, ◌&&◌, ◌≤◌, List, length, map, nat_le, filter}
 use Rattle.cov_model.specs.declared.report.Range.{Range}
 use Rattle.cov_text.specs.Listing.{last_or}
 use Rattle.utf16_lines.specs.declared.Span.{Span}

@@ -1,5 +1,5 @@
 -- What one walk over the lines knows before each of them.
-use Rattle.std.specs.Prelude.{◌≡◌, ℕ, suc, max, ◌≤◌, Bool, List, length, map, nat_lt, filter_map, fold}
+use Rattle.std.specs.Prelude.{◌≡◌, ℕ, suc, max, ◌≤◌, Bool, List, length, nat_lt, fold}
 use Rattle.std.specs.List.{list_any}
 use Rattle.cov_text.specs.Listing.{offsets}
 use Rattle.istanbul_rules.specs.Ignored.{nexts, is_stopped_until, is_next}

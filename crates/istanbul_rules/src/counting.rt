@@ -1,14 +1,17 @@
 //! The counts of lines.
-ghost use Rattle.std.specs.Prelude.{◌≡◌, ◌<◌, ℕ, Some, length, map, slice_index_or, IfOk};
+ghost use Rattle.std.specs.Prelude.{◌≡◌, ◌<◌, ◌++◌, ℕ, Some, length, map, slice_index_or, IfOk, OnOk};
 ghost use Rattle.std.specs.List.{All, Contains};
 ghost use Rattle.std.specs.List.Sorted.{IsNonDecreasing, IsNonDecreasingBy};
-ghost use Rattle.istanbul_rules.specs.Parts.{direct_line, mapped_line, greatest};
+ghost use Rattle.source_remap.specs.declared.lines.Landing.{Landing};
+ghost use Rattle.source_remap.specs.Groups.{of_source};
+ghost use Rattle.istanbul_rules.specs.Parts.{direct_line, count_at, greatest};
 ghost use Rattle.istanbul_rules.specs.Painting.{stretch_of_line, stretch_at};
 ghost use Rattle.istanbul_rules.specs.declared.painting.Stretch.{Stretch};
 
 use crate::painting::{Stretch, counts_of};
 use cov_model::Range;
 use cov_text::Items;
+use source_remap::Landing;
 use std::alloc::{AllocError, Global};
 use utf16_lines::{LineTable, Span};
 
@@ -55,35 +58,56 @@ fn stretch_of(line: Span) -> Stretch
     }
 }
 
-/// The greatest count at the anchors of each line, and none where a line has no anchor, by the ranges in order.
+/// The greatest count at the anchors of each line, and none where a line has no anchor. The offsets rise, each anchor is
+/// one of them, and each has its count.
 pub fn mapped_lines(
     alloc: Global,
     anchors: &[Items<u32>],
-    ranges: &[Range],
+    offsets: &[u32],
+    counts: &[u64],
 ) -> Result<Items<Option<u64>>, AllocError>
-    ensures { IfOk result (λ lines. lines ≡ map (mapped_line ranges.now) anchors.now) }
+    requires sorted { IsNonDecreasing offsets.now }
+    requires counts { length counts.now ≡ length offsets.now }
+    requires within { All (All (Contains offsets.now)) anchors.now }
+    ensures { IfOk result (λ lines. (count_of : ℕ → ℕ) → counts.now ≡ map count_of offsets.now → lines ≡ map (λ places. greatest (map count_of places)) anchors.now) }
 {
-    let offsets = in_order(alloc, anchors)?;
-    let stretches = unit_stretches(alloc, &offsets)?;
-    let counts = counts_of(alloc, &stretches, ranges)?;
     let mut lines = Items::new(alloc);
     for places in anchors {
-        lines.push(greatest_count(places.as_slice(), &offsets, &counts))?;
+        lines.push(greatest_count(places.as_slice(), offsets, counts))?;
     }
     Ok(lines)
 }
 
-// The offsets of all anchors, rising.
-fn in_order(alloc: Global, anchors: &[Items<u32>]) -> Result<Vec<u32>, AllocError>
+/// The offsets of all landings, rising.
+pub fn landing_offsets(alloc: Global, landings: &[Items<Landing>]) -> Result<Vec<u32>, AllocError>
     ensures sorted { IfOk result (λ offsets. IsNonDecreasing offsets.items) }
-    ensures all { IfOk result (λ offsets. All (All (Contains offsets.items)) anchors.now) }
+    ensures all { IfOk result (λ offsets. (source : ℕ) → All (Contains offsets.items) (map (λ (l : Landing). l.offset) (of_source landings.now source))) }
 {
     let mut offsets = Vec::new(alloc);
-    for places in anchors {
-        offsets.extend_from_slice(places.as_slice())?;
+    for list in landings {
+        add_offsets(list.as_slice(), &mut offsets)?;
     }
     offsets.sort_unstable();
     Ok(offsets)
+}
+
+// Puts the offsets of these landings at the end.
+fn add_offsets(landings: &[Landing], offsets: &mut Vec<u32>) -> Result<(), AllocError>
+    ensures { OnOk result (offsets.new.items ≡ offsets.old.items ++ map (λ (l : Landing). l.offset) landings.now) }
+{
+    for landing in landings {
+        offsets.push(landing.offset)?;
+    }
+    Ok(())
+}
+
+/// The count at each of these offsets, which rise, by the ranges in order.
+pub fn counts_at(alloc: Global, offsets: &[u32], ranges: &[Range]) -> Result<Vec<u64>, AllocError>
+    requires { IsNonDecreasing offsets.now }
+    ensures { IfOk result (λ counts. counts.items ≡ map (count_at ranges.now) offsets.now) }
+{
+    let stretches = unit_stretches(alloc, offsets)?;
+    counts_of(alloc, &stretches, ranges)
 }
 
 // The units at offsets.

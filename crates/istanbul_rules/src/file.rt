@@ -2,7 +2,7 @@
 ghost use Rattle.std.specs.Prelude.{◌≡◌, ◌+◌, ◌^◌, ◌≤◌, ◌<◌, ◌++◌, length, filter, decimal, IfOk};
 ghost use Rattle.std.specs.List.{AllByRecursion};
 ghost use Rattle.cov_text.specs.Listing.{max_text};
-ghost use Rattle.utf16_lines.specs.Lines.{lines};
+ghost use Rattle.utf16_lines.specs.Lines.{lines, table_of};
 ghost use Rattle.istanbul_rules.specs.File as file;
 
 use crate::ignoring::ignored;
@@ -31,11 +31,26 @@ pub fn file_coverage(
     requires lines { AllByRecursion (λ part. length part.lines ≡ length (lines text.now)) parts.now }
     ensures { IfOk result (λ coverage. coverage ≡ file.file_coverage path.now text.now parts.now) }
 {
+    let table = LineTable::of(alloc, text)?;
+    file_coverage_by(alloc, path, text, &table, parts)
+}
+
+/// The same as `file_coverage`, for who has the table of the text's lines.
+pub fn file_coverage_by(
+    alloc: Global,
+    path: &str,
+    text: &str,
+    table: &LineTable,
+    parts: &[Part],
+) -> Result<FileCoverage, AllocError>
+    requires short { length text.now ≤ max_text }
+    requires table { table.now ≡ table_of text.now }
+    ensures { IfOk result (λ coverage. coverage ≡ file.file_coverage path.now text.now parts.now) }
+{
     let ignored = ignored(alloc, text)?;
     let off = ignored.as_slice();
-    let table = LineTable::of(alloc, text)?;
     let path = Text::from_text(alloc, path)?;
-    let statements = statements_of(alloc, &table, off, parts)?;
+    let statements = statements_of(alloc, table, off, parts)?;
     let functions = functions_in(alloc, off, parts)?;
     let branches = branches_in(alloc, off, parts)?;
     Ok(FileCoverage::new(FileParts {

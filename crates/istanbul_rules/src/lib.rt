@@ -9,10 +9,12 @@ mod laws;
 mod locating;
 mod painting;
 mod part;
+mod remapped;
 #[cfg(test)]
 mod tests;
 
-pub use file::file_coverage;
+pub use file::{file_coverage, file_coverage_by};
 pub use ignoring::ignored;
 pub use laws::worked_examples;
 pub use part::{Part, PartBranch, PartFunction, direct_part, mapped_part};
+pub use remapped::{CountedSpan, NamedSpan, Remapped};

@@ -1,7 +1,5 @@
-//! Where ranges stand in a file, and the branches and functions that they make.
-ghost use Rattle.std.specs.Prelude.{◌≡◌, ◌+◌, ◌<◌, ◌^◌, ◌++◌, Option, None, length, filter_map, if◌then◌else◌, IfOk};
-ghost use Rattle.cov_model.specs.declared.report.Range.{Range};
-ghost use Rattle.istanbul_json.specs.declared.file.Loc.{Loc};
+//! Where ranges stand in their own text, and the branches and functions that they make.
+ghost use Rattle.std.specs.Prelude.{◌≡◌, ◌+◌, ◌<◌, ◌^◌, ◌++◌, None, length, filter_map, if◌then◌else◌, IfOk};
 ghost use Rattle.utf16_lines.specs.Lines as lines;
 ghost use Rattle.istanbul_rules.specs.Parts as parts;
 
@@ -9,63 +7,22 @@ use crate::part::{PartBranch, PartFunction};
 use cov_model::{FunctionReport, Range};
 use cov_text::Items;
 use istanbul_json::{Loc, Mark};
-use source_maps::SourceMap;
-use source_remap::{OriginalSpan, original_span};
+use source_remap::OriginalSpan;
 use std::alloc::{AllocError, Global};
 use utf16_lines::{LineTable, Spot};
 
-/// What tells the location of a range in a file, where it has one.
-pub trait Locates {
-    ghost loc_of: { Self → Range → Option Loc };
-
-    /// The range's location.
-    fn locate(&self, range: Range) -> Option<Loc>
-        ensures { result ≡ loc_of self.now range };
+// The location of a range of the text itself, where that has a line.
+#[tactic(auto, unfolding(crate::specs::Parts::direct_loc))]
+fn direct_loc(table: &LineTable, range: Range) -> Option<Loc>
+    ensures { result ≡ parts.direct_loc table.now range }
+{
+    let start = mark_within(table, range.start)?;
+    let end = mark_within(table, range.end)?;
+    Some(Loc { start, end })
 }
 
-/// Ranges of the text itself.
-#[derive(Clone, Copy)]
-pub struct InText<'a> {
-    /// The lines of the text.
-    pub table: &'a LineTable,
-}
-
-impl<'a> Locates for InText<'a> {
-    ghost loc_of = { λ place range. parts.direct_loc place.table.now range };
-
-    #[tactic(auto, unfolding(crate::specs::Parts::direct_loc))]
-    fn locate(&self, range: Range) -> Option<Loc> {
-        let start = mark_within(self.table, range.start)?;
-        let end = mark_within(self.table, range.end)?;
-        Some(Loc { start, end })
-    }
-}
-
-/// Ranges of generated code, in a source of its map.
-#[derive(Clone, Copy)]
-pub struct ThroughMap<'a> {
-    /// The lines of the source.
-    pub table: &'a LineTable,
-    /// The lines of the generated code.
-    pub generated: &'a LineTable,
-    /// The map of the generated code.
-    pub map: &'a SourceMap,
-    /// The source, by its place in the map's list.
-    pub source: u32,
-}
-
-impl<'a> Locates for ThroughMap<'a> {
-    ghost loc_of = { λ place range. parts.mapped_loc place.table.now place.generated.now place.map.now.segments place.source range };
-
-    #[tactic(auto, unfolding(crate::specs::Parts::mapped_loc))]
-    fn locate(&self, range: Range) -> Option<Loc> {
-        let span = original_span(self.map, self.generated, range.start, range.end)?;
-        loc_in_source(self.table, self.source, span)
-    }
-}
-
-// The location of an original span, where it is of this source and its lines are in the table.
-fn loc_in_source(table: &LineTable, source: u32, span: OriginalSpan) -> Option<Loc>
+/// The location of an original span, where it is of this source and its lines are in the table.
+pub fn loc_in_source(table: &LineTable, source: u32, span: OriginalSpan) -> Option<Loc>
     ensures { result ≡ parts.loc_in_source table.now source span }
 {
     let lines = table.lines();
@@ -119,32 +76,32 @@ pub fn mark(line: u32, column: u32) -> Mark
 }
 
 /// The ranges that have a location, of the functions whose flag is true.
-pub fn branches_of<P: Locates>(
+pub fn branches_of(
     alloc: Global,
-    place: &P,
+    table: &LineTable,
     functions: &[FunctionReport],
 ) -> Result<Items<PartBranch>, AllocError>
-    ensures { IfOk result (λ branches. branches ≡ parts.branches_of (P.loc_of place.now) functions.now) }
+    ensures { IfOk result (λ branches. branches ≡ parts.branches_of (parts.direct_loc table.now) functions.now) }
 {
     let mut branches = Items::new(alloc);
     for function in functions {
         if function.block {
-            add_branches(place, function.ranges.as_slice(), &mut branches)?;
+            add_branches(table, function.ranges.as_slice(), &mut branches)?;
         }
     }
     Ok(branches)
 }
 
 // Puts the branches of a function at the end.
-fn add_branches<P: Locates>(
-    place: &P,
+fn add_branches(
+    table: &LineTable,
     ranges: &[Range],
     branches: &mut Items<PartBranch>,
 ) -> Result<(), AllocError>
-    ensures { IfOk result (λ _. branches.new ≡ branches.old ++ filter_map (parts.branch_of (P.loc_of place.now)) ranges.now) }
+    ensures { IfOk result (λ _. branches.new ≡ branches.old ++ filter_map (parts.branch_of (parts.direct_loc table.now)) ranges.now) }
 {
     for range in ranges {
-        if let Some(loc) = place.locate(*range) {
+        if let Some(loc) = direct_loc(table, *range) {
             branches.push(PartBranch {
                 loc,
                 count: range.count,
@@ -155,16 +112,16 @@ fn add_branches<P: Locates>(
 }
 
 /// The functions that have a name and whose root has a location.
-pub fn functions_of<P: Locates>(
+pub fn functions_of(
     alloc: Global,
-    place: &P,
+    table: &LineTable,
     functions: &[FunctionReport],
 ) -> Result<Items<PartFunction>, AllocError>
-    ensures { IfOk result (λ found. found ≡ parts.functions_of (P.loc_of place.now) functions.now) }
+    ensures { IfOk result (λ found. found ≡ parts.functions_of (parts.direct_loc table.now) functions.now) }
 {
     let mut found = Items::new(alloc);
     for function in functions {
-        if let Some(located) = function_of(place, function)? {
+        if let Some(located) = function_of(table, function)? {
             found.push(located)?;
         }
     }
@@ -172,11 +129,11 @@ pub fn functions_of<P: Locates>(
 }
 
 // The function, where it has a name and its root a location.
-fn function_of<P: Locates>(
-    place: &P,
+fn function_of(
+    table: &LineTable,
     function: &FunctionReport,
 ) -> Result<Option<PartFunction>, AllocError>
-    ensures { IfOk result (λ found. found ≡ (if parts.has_name function.now then parts.function_of (P.loc_of place.now) function.now else None)) }
+    ensures { IfOk result (λ found. found ≡ (if parts.has_name function.now then parts.function_of (parts.direct_loc table.now) function.now else None)) }
 {
     let name = function.name.as_text();
     if name.is_empty() {
@@ -185,7 +142,7 @@ fn function_of<P: Locates>(
     let Some(root) = function.ranges.get(0) else {
         return Ok(None);
     };
-    let Some(loc) = place.locate(*root) else {
+    let Some(loc) = direct_loc(table, *root) else {
         return Ok(None);
     };
     let name = function.name.clone()?;

@@ -2,13 +2,13 @@
 ghost use Rattle.std.specs.Prelude.{◌≡◌, IfOk};
 ghost use Rattle.istanbul_rules.specs.Parts as parts;
 
-use crate::counting::{direct_lines, mapped_lines};
-use crate::locating::{InText, ThroughMap, branches_of, functions_of};
+use crate::counting::direct_lines;
+use crate::locating::{branches_of, functions_of};
+use crate::remapped::Remapped;
 use cov_model::{FunctionReport, Range};
 use cov_text::{Items, Text};
 use istanbul_json::Loc;
 use source_maps::SourceMap;
-use source_remap::original_lines;
 use std::alloc::{AllocError, Global};
 use utf16_lines::LineTable;
 
@@ -61,9 +61,8 @@ pub fn direct_part(
 {
     let ranges = ranges_of(alloc, functions)?;
     let lines = direct_lines(alloc, table, ranges.as_slice())?;
-    let place = InText { table };
-    let branches = branches_of(alloc, &place, functions)?;
-    let functions = functions_of(alloc, &place, functions)?;
+    let branches = branches_of(alloc, table, functions)?;
+    let functions = functions_of(alloc, table, functions)?;
     Ok(Part {
         lines,
         branches,
@@ -79,7 +78,8 @@ pub fn direct_part(
 /// where the range has no original span, where that is in another source, or where one of the two lines isn't in the
 /// table. Branches and functions are those of a direct part with this location.
 ///
-/// Takes time by the lines, the segments and the ranges, times a logarithm. The only error is want of memory.
+/// Takes time by the lines, the segments and the ranges, times a logarithm: who asks for several sources of one map makes
+/// a `Remapped` once. The only error is want of memory.
 pub fn mapped_part(
     alloc: Global,
     table: &LineTable,
@@ -90,26 +90,15 @@ pub fn mapped_part(
 ) -> Result<Part, AllocError>
     ensures { IfOk result (λ part. part ≡ parts.mapped_part table.now generated.now map.now.segments source functions.now) }
 {
-    let ranges = ranges_of(alloc, functions)?;
-    let anchors = original_lines(alloc, map, source, generated, table.lines())?;
-    let lines = mapped_lines(alloc, anchors.as_slice(), ranges.as_slice())?;
-    let place = ThroughMap {
-        table,
-        generated,
-        map,
-        source,
-    };
-    let branches = branches_of(alloc, &place, functions)?;
-    let functions = functions_of(alloc, &place, functions)?;
-    Ok(Part {
-        lines,
-        branches,
-        functions,
-    })
+    let remapped = Remapped::of(alloc, generated, map, functions)?;
+    remapped.part(alloc, table, source)
 }
 
-// The ranges of the functions, one function behind the other.
-fn ranges_of(alloc: Global, functions: &[FunctionReport]) -> Result<Items<Range>, AllocError>
+/// The ranges of the functions, one function behind the other.
+pub(crate) fn ranges_of(
+    alloc: Global,
+    functions: &[FunctionReport],
+) -> Result<Items<Range>, AllocError>
     ensures { IfOk result (λ ranges. ranges ≡ parts.ranges_in_order functions.now) }
 {
     let mut ranges = Items::new(alloc);

@@ -194,12 +194,15 @@ least-of_all all given n xs least same is given_is =
     let many : length xs ≡ n = ap length here ∙ length-counted (least_on all) 0 n in
     here ∙ ap (λ m. map (least_on all) (counted 0 m)) (sym many)
 
-pub anchors-found : (segments given : List MapSegment) (source : ℕ) (generated : Table) (n : ℕ) (all first lent : List Landing) (least xs : List ℕ) (found : List (List ℕ)) → given ≡ segments
-    → all ≡ landings given source generated → lent ≡ all → xs ≡ least → least ≡ map (least_on first) (counted 0 n) → found ≡ map (leftmost_on lent) (counted 0 (length xs))
-    → found ≡ original_lines segments source generated n
+pub anchors-of_all : (ls : List Landing) (n : ℕ) (xs least : List ℕ) (found : List (List ℕ)) → xs ≡ least → least ≡ map (least_on ls) (counted 0 n)
+    → found ≡ map (leftmost_on ls) (counted 0 (length xs)) → found ≡ map (leftmost_on ls) (counted 0 n)
+anchors-of_all ls n xs least found same is found_is =
+    let many : length xs ≡ n = ap length (same ∙ is) ∙ length-counted (least_on ls) 0 n in
+    found_is ∙ ap (λ m. map (leftmost_on ls) (counted 0 m)) many
+
+pub anchors-found : (segments : List MapSegment) (source : ℕ) (generated : Table) (n : ℕ) (ls : List Landing) → ls ≡ landings segments source generated
+    → map (leftmost_on ls) (counted 0 n) ≡ original_lines segments source generated n
 unfolding anchors
-anchors-found segments given source generated n all first lent least xs found given_is all_is lent_is xs_is least_is found_is =
-    let many : length xs ≡ n - 0 = ap length (xs_is ∙ least_is) ∙ length-counted (least_on first) 0 n ∙ omega arith in
-    let whole = lent_is ∙ all_is ∙ ap (λ (s : List MapSegment). landings s source generated) given_is in
-    found_is ∙ ap (λ ls. map (leftmost_on ls) (counted 0 (length xs))) whole
-    ∙ ap (λ m. map (leftmost_on (landings segments source generated)) (counted 0 m)) many
+anchors-found segments source generated n ls is =
+    let many : n ≡ n - 0 = omega arith in
+    ap (λ ls. map (leftmost_on ls) (counted 0 n)) is ∙ ap (λ m. map (leftmost_on (landings segments source generated)) (counted 0 m)) many

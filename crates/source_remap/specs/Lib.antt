@@ -1,3 +1,4 @@
 pub mod Paths
 pub mod Origins
 pub mod Columns
+pub mod Groups

@@ -2,6 +2,7 @@
 //! generated places come from, and the original spans of generated ranges.
 #![tactic(auto)]
 
+mod groups;
 mod lines;
 mod paths;
 mod spans;
@@ -9,7 +10,8 @@ mod spans;
 mod tests;
 mod walk;
 
-pub use lines::original_lines;
+pub use groups::BySource;
+pub use lines::{Landing, anchors_of, landings_by_source, original_lines};
 pub use paths::{path_of, source_path};
 pub use spans::original_span;
 use utf16_lines::Spot;

@@ -3,7 +3,9 @@ ghost use Rattle.std.specs.Prelude.{◌≡◌, [], map, replicate, length, IfOk}
 ghost use Rattle.cov_text.specs.Listing.{counted};
 ghost use Rattle.source_remap.specs.Origins as origins;
 ghost use Rattle.source_remap.specs.Columns.{least_on, leftmost_on};
+ghost use Rattle.source_remap.specs.Groups.{AreBySource};
 
+use crate::groups::BySource;
 use cov_text::Items;
 use source_maps::{MapSegment, SourceMap};
 use std::alloc::{AllocError, Global};
@@ -38,9 +40,45 @@ pub fn original_lines(
     ensures { IfOk result (λ offsets. offsets ≡ origins.original_lines map.now.segments source generated.now lines) }
 {
     let landings = landings(alloc, map.segments(), source, generated)?;
-    let least = least_columns(alloc, landings.as_slice(), lines)?;
-    let offsets = leftmost_offsets(alloc, landings.as_slice(), least.as_slice())?;
+    anchors_of(alloc, landings.as_slice(), lines)
+}
+
+/// For each original line below `lines`, the generated offsets of the leftmost of the landings on it, in their order.
+///
+/// Takes time by the number of landings and of lines. The only error is want of memory.
+pub fn anchors_of(
+    alloc: Global,
+    landings: &[Landing],
+    lines: u32,
+) -> Result<Items<Items<u32>>, AllocError>
+    ensures { IfOk result (λ offsets. offsets ≡ map (leftmost_on landings.now) (counted 0 lines)) }
+{
+    let least = least_columns(alloc, landings, lines)?;
+    let offsets = leftmost_offsets(alloc, landings, least.as_slice())?;
     Ok(Items::from_vec(offsets))
+}
+
+/// Where the segments of each source of a map land in it, in their order.
+///
+/// Takes time by the number of segments. The only error is want of memory.
+pub fn landings_by_source(
+    alloc: Global,
+    map: &SourceMap,
+    generated: &LineTable,
+) -> Result<BySource<Landing>, AllocError>
+    ensures { IfOk result (AreBySource (origins.landing_of generated.now) map.now.segments) }
+{
+    let mut found = BySource::new(alloc);
+    let segments = map.segments();
+    for segment in segments {
+        let Some(origin) = segment.origin else {
+            continue;
+        };
+        if let Some(landing) = landing_of(generated, origin.source, *segment) {
+            found.put(alloc, origin.source, landing)?;
+        }
+    }
+    Ok(found)
 }
 
 // Where the segments of a source land, in their order.

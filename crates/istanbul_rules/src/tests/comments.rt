@@ -18,7 +18,7 @@ fn check_lines(rt: &impl Abort, alloc: Global, text: &str, wanted: &str) -> Resu
 }
 
 #[test]
-fn a_next_comment_leaves_out_the_lines_behind_it(rt: HostRuntime) -> Result<(), Fail> {
+fn next_comments_leave_out_the_lines_behind_them(rt: HostRuntime) -> Result<(), Fail> {
     let alloc = rt.alloc();
     for (text, wanted) in [
         (
@@ -45,16 +45,6 @@ fn a_next_comment_leaves_out_the_lines_behind_it(rt: HostRuntime) -> Result<(), 
         ),
         ("x = '😀/* c8 ignore next */';\nb\nc", "xx."),
         ("a\n/* c8 ignore next 5 */", ".x"),
-    ] {
-        check_lines(&rt, alloc, text, wanted)?;
-    }
-    Ok(())
-}
-
-#[test]
-fn other_numbers_are_no_comment(rt: HostRuntime) -> Result<(), Fail> {
-    let alloc = rt.alloc();
-    for (text, wanted) in [
         ("/* c8 ignore next 0000000001 */\nb", ".."),
         ("/* c8 ignore next  2 */\nb", ".."),
         ("/* c8 ignore next 2*/\nb", ".."),
@@ -72,7 +62,7 @@ fn other_numbers_are_no_comment(rt: HostRuntime) -> Result<(), Fail> {
 }
 
 #[test]
-fn a_start_holds_up_to_the_next_stop(rt: HostRuntime) -> Result<(), Fail> {
+fn starts_hold_up_to_the_next_stop(rt: HostRuntime) -> Result<(), Fail> {
     let alloc = rt.alloc();
     for (text, wanted) in [
         (
@@ -95,16 +85,6 @@ fn a_start_holds_up_to_the_next_stop(rt: HostRuntime) -> Result<(), Fail> {
             "/* c8 ignore start */\n/* c8 ignore stop *//* c8 ignore next */\nc\nd",
             "xxx.",
         ),
-    ] {
-        check_lines(&rt, alloc, text, wanted)?;
-    }
-    Ok(())
-}
-
-#[test]
-fn comments_may_share_a_slash(rt: HostRuntime) -> Result<(), Fail> {
-    let alloc = rt.alloc();
-    for (text, wanted) in [
         ("/* c8 ignore start */* c8 ignore stop */\nb\n", "x."),
         ("/* c8 ignore next */* c8 ignore next 2 */\nb\nc\nd", "xxx."),
         (
@@ -112,16 +92,6 @@ fn comments_may_share_a_slash(rt: HostRuntime) -> Result<(), Fail> {
             "xxxx.",
         ),
         ("/* c8 ignore next */* c8 ignore start */\nb\nc", "xxx"),
-    ] {
-        check_lines(&rt, alloc, text, wanted)?;
-    }
-    Ok(())
-}
-
-#[test]
-fn lines_end_at_lf_and_cr_lf(rt: HostRuntime) -> Result<(), Fail> {
-    let alloc = rt.alloc();
-    for (text, wanted) in [
         ("", ""),
         ("a", "."),
         ("a\n", "."),

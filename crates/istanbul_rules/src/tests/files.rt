@@ -78,11 +78,6 @@ fn each_line_with_a_count_is_a_statement(rt: HostRuntime) -> Result<(), Fail> {
         None => false,
     };
     assert!(rt; branch && file.branches().len() == 2);
-    Ok(())
-}
-
-#[test]
-fn an_ignored_line_drops_all_that_starts_there(rt: HostRuntime) -> Result<(), Fail> {
     let text = "a();\nb();/* c8 ignore start */\n";
     let file = direct(&rt, rt.alloc(), text, &[(0, 10, 1), (5, 9, 0)])?;
     assert!(rt; file.statements().len() == 1 && file.branches().len() == 1);

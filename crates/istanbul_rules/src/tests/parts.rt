@@ -56,43 +56,26 @@ fn a_loop_with_a_conditional(rt: HostRuntime) -> Result<(), Fail> {
 }
 
 #[test]
-fn a_range_over_whole_lines_counts_for_all_of_them(rt: HostRuntime) -> Result<(), Fail> {
+fn the_last_range_over_a_whole_line_counts(rt: HostRuntime) -> Result<(), Fail> {
+    let alloc = rt.alloc();
     let ranges = [(0, 34, 1), (13, 33, 10), (19, 24, 4), (24, 30, 6)];
-    let lines = [Some(1), Some(10), Some(10)];
-    check_lines(&rt, rt.alloc(), LOOP, &ranges, &lines, 4)?;
-    Ok(())
-}
-
-#[test]
-fn the_last_range_over_the_whole_line_counts(rt: HostRuntime) -> Result<(), Fail> {
+    check_lines(&rt, alloc, LOOP, &ranges, &[Some(1), Some(10), Some(10)], 4)?;
+    check_lines(&rt, alloc, "", &[(0, 0, 5)], &[], 0)?;
     let ranges = [(0, 5, 3), (1, 5, 0), (0, 4, 9)];
-    let lines = [Some(9), Some(0)];
-    let part = check_lines(&rt, rt.alloc(), "ab\ncd", &ranges, &lines, 3)?;
+    let part = check_lines(&rt, alloc, "ab\ncd", &ranges, &[Some(9), Some(0)], 3)?;
     check_branch(&rt, &part, 1, (1, 1), (2, 2), 0);
     Ok(())
 }
 
 #[test]
-fn a_text_without_lines_has_no_location(rt: HostRuntime) -> Result<(), Fail> {
-    check_lines(&rt, rt.alloc(), "", &[(0, 0, 5)], &[], 0)?;
-    Ok(())
-}
-
-#[test]
-fn ranges_within_surrogate_pairs(rt: HostRuntime) -> Result<(), Fail> {
+fn ranges_within_pairs_and_line_ends(rt: HostRuntime) -> Result<(), Fail> {
+    let alloc = rt.alloc();
     let ranges = [(0, 6, 1), (1, 5, 0), (0, 2, 4)];
-    let lines = [Some(4), Some(1)];
-    let part = check_lines(&rt, rt.alloc(), "😀\nb😀", &ranges, &lines, 3)?;
+    let part = check_lines(&rt, alloc, "😀\nb😀", &ranges, &[Some(4), Some(1)], 3)?;
     check_branch(&rt, &part, 1, (1, 1), (2, 2), 0);
     check_branch(&rt, &part, 2, (1, 0), (1, 2), 4);
-    Ok(())
-}
-
-#[test]
-fn cr_lf_and_ranges_past_the_text(rt: HostRuntime) -> Result<(), Fail> {
     let ranges = [(0, 100, 2), (0, 2, 7), (3, 4, 9)];
-    let lines = [Some(7), Some(2)];
-    let part = check_lines(&rt, rt.alloc(), "ab\r\ncd", &ranges, &lines, 3)?;
+    let part = check_lines(&rt, alloc, "ab\r\ncd", &ranges, &[Some(7), Some(2)], 3)?;
     check_branch(&rt, &part, 0, (1, 0), (2, 2), 2);
     check_branch(&rt, &part, 2, (1, 2), (2, 0), 9);
     Ok(())
@@ -136,29 +119,14 @@ fn check_mapped(
 
 #[test]
 fn a_source_has_the_counts_of_its_anchors(rt: HostRuntime) -> Result<(), Fail> {
-    let lines = [Some(1), None, Some(0)];
-    let part = check_mapped(&rt, rt.alloc(), "AAAA;AAEA", 0, &lines)?;
+    let alloc = rt.alloc();
+    let part = check_mapped(&rt, alloc, "AAAA;AAEA", 0, &[Some(1), None, Some(0)])?;
     assert!(rt; part.branches.len() == 2);
     check_branch(&rt, &part, 0, (1, 0), (3, 4), 1);
     check_branch(&rt, &part, 1, (3, 0), (3, 4), 0);
-    Ok(())
-}
-
-#[test]
-fn another_source_has_no_count(rt: HostRuntime) -> Result<(), Fail> {
-    let part = check_mapped(&rt, rt.alloc(), "AAAA;AAEA", 1, &[None, None, None])?;
+    let part = check_mapped(&rt, alloc, "AAAA;AAEA", 1, &[None, None, None])?;
     assert!(rt; part.branches.is_empty());
-    Ok(())
-}
-
-#[test]
-fn two_anchors_of_a_line_give_the_greatest_count(rt: HostRuntime) -> Result<(), Fail> {
-    check_mapped(&rt, rt.alloc(), "AAAA;AAAA", 0, &[Some(1), None, None])?;
-    Ok(())
-}
-
-#[test]
-fn the_least_column_of_a_line_alone_counts(rt: HostRuntime) -> Result<(), Fail> {
-    check_mapped(&rt, rt.alloc(), "AAAG;AAAF", 0, &[Some(0), None, None])?;
+    check_mapped(&rt, alloc, "AAAA;AAAA", 0, &[Some(1), None, None])?;
+    check_mapped(&rt, alloc, "AAAG;AAAF", 0, &[Some(0), None, None])?;
     Ok(())
 }

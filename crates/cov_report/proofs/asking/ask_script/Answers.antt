@@ -2,13 +2,8 @@ use Rattle.std.proofs.Common.{◌≡◌, ◌∙◌, ap, sym, refl, length}
 use Rattle.cov_report.specs.declared.answer.SkipCause.TheVariants.{NotFile}
 use Rattle.cov_report.specs.Wanted.{direct, direct_wanted}
 use Rattle.istanbul_rules.specs.Parts.{direct_part}
-use Rattle.cov_report.proofs.Fits.{direct-lines}
 use Rattle.cov_report.proofs.Steps.{Gathers-skip, Gathers-refused, Gathers-part, direct-none, direct-some}
 use Rattle.cov_report.proofs.asking.ask_script.Goals as goal
-
-pub put-requires : goal.put-requires
-put-requires g c =
-    ap (λ p. length p.lines) c.in_ok-part-in-Ok.ensures ∙ direct-lines c.table.result.now c.as_slice.result.now ∙ ap (λ t. length t.spans) c.table.ensures
 
 pub returns-in_default-clause-gathers : goal.returns-in_default-clause-gathers
 returns-in_default-clause-gathers g c =

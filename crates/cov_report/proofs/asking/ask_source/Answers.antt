@@ -7,15 +7,8 @@ use Rattle.istanbul_rules.specs.Parts.{mapped_part}
 use Rattle.cov_report.specs.declared.answer.SkipCause.TheVariants.{NotFile}
 use Rattle.cov_report.specs.SoFar.{taken_from}
 use Rattle.cov_report.specs.Wanted.{mapped, mapped_wanted, own_text}
-use Rattle.cov_report.proofs.Fits.{mapped-lines}
 use Rattle.cov_report.proofs.Steps.{Gathers-skip, Gathers-refused, Gathers-part, mapped-is}
 use Rattle.cov_report.proofs.asking.ask_source.Goals as goal
-
-pub put-requires : goal.put-requires
-put-requires g c =
-    ap (λ p. length p.lines) c.in_ok-part-in-Ok.ensures
-    ∙ mapped-lines c.table.result.now c.args.good.now.generated c.args.good.now.map.segments c.args.k c.as_slice-functions.result.now
-    ∙ ap (λ t. length t.spans) c.table.ensures
 
 pub returns-in_default-clause-gathers : goal.returns-in_default-clause-gathers
 returns-in_default-clause-gathers g c =
@@ -36,8 +29,7 @@ returns-in_ok-put-in-Ok-clause-gathers g c =
     ∙ ap (λ t. taken_from (get text_cmp c.args.gathered.now.files c.in-Some.path) (own_text told c.in-Some.path t)) c.content_of-content.ensures)
     c.in_ok-file.ensures.others
     (c.in_ok-part-in-Ok.ensures
-    ∙ ap (λ t. mapped_part t c.args.good.now.generated c.args.good.now.map.segments c.args.k c.as_slice-functions.result.now) c.table.ensures
-    ∙ ap (mapped_part c.in-Ok.file.table c.args.good.now.generated c.args.good.now.map.segments c.args.k) c.as_slice-functions.ensures)
+    ∙ (λ i. mapped_part (c.table.ensures i) (c.requires.remapped i).generated (c.requires.remapped i).segments c.args.k (c.requires.remapped i).functions))
     c.in_ok-put-in-Ok.ensures.files c.in_ok-put-in-Ok.ensures.skips holds
 
 pub returns-in_ok-skip-in-Err-clause-gathers : goal.returns-in_ok-skip-in-Err-clause-gathers

@@ -1,4 +1,4 @@
-use Rattle.std.proofs.Common.{◌≡◌, sym, ap, ◌∙◌, arith}
+use Rattle.std.proofs.Common.{ap, ◌∙◌, arith}
 use Rattle.std.specs.Prelude.{map, Some}
 use Rattle.istanbul_rules.specs.Painting.{count_over}
 use Rattle.istanbul_rules.proofs.Lists.{walked_all}

@@ -1,4 +1,4 @@
-use Rattle.std.proofs.Common.{◌≡◌, get_or, ap, ◌∙◌}
+use Rattle.std.proofs.Common.{get_or, ap, ◌∙◌}
 use Rattle.std.specs.Prelude.{Some}
 use Rattle.istanbul_rules.proofs.Greatest.{first_greatest, next_greatest}
 use Rattle.istanbul_rules.proofs.Offsets.{found_count}

@@ -1,4 +1,4 @@
-use Rattle.std.proofs.Common.{◌≡◌, ◌<◌, [], ◌∷◌, ◌++◌, length, ap, ◌∙◌, arith}
+use Rattle.std.proofs.Common.{◌<◌, [], ◌∷◌, ◌++◌, length, ap, ◌∙◌, arith}
 use Rattle.istanbul_rules.specs.Painting.{stretch_of_line}
 use Rattle.istanbul_rules.proofs.Lists.{walked, walked_all}
 use Rattle.istanbul_rules.proofs.Lines.{line_starts, line_ends, line_there, line_missing, nowhere}

@@ -1,11 +1,11 @@
-use Rattle.std.proofs.Common.{◌≡◌, ℕ, ◌+◌, List, [], ◌∷◌, ◌++◌, length, refl, sym, ap, ◌∙◌, subst, arith, length-append}
-use Rattle.std.specs.Prelude.{map, max, ◌||◌, not, ◌&&◌, nat_lt}
+use Rattle.std.proofs.Common.{◌≡◌, [], ◌∷◌, length, sym, ap, ◌∙◌, arith, length-append}
+use Rattle.std.specs.Prelude.{map}
 use Rattle.std.proofs.lemmas.List.{map-append, length-map}
 use Rattle.std.proofs.lemmas.Iterator.Splits.{YieldsList-from_lines}
 use Rattle.std.proofs.lemmas.Iterator.Consumers.{YieldsList-end}
 use Rattle.istanbul_rules.specs.Ignored.{marks, ignored}
 use Rattle.istanbul_rules.specs.Walk.{covered}
-use Rattle.istanbul_rules.proofs.Walked.{line_walked, LineWalk}
+use Rattle.istanbul_rules.proofs.Walked.{line_walked}
 use Rattle.istanbul_rules.proofs.ignoring.ignored.Goals as goal
 
 pub loop-line-preserved : goal.loop-line-preserved

@@ -1,4 +1,4 @@
-use Rattle.std.proofs.Common.{◌≡◌, ◌∙◌, sym, ap}
+use Rattle.std.proofs.Common.{◌∙◌, sym}
 use Rattle.istanbul_rules.proofs.Comments.{numbered_here}
 use Rattle.istanbul_rules.proofs.ignoring.next_here.Goals as goal
 

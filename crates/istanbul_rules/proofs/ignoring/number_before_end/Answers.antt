@@ -1,4 +1,4 @@
-use Rattle.std.proofs.Common.{◌≡◌, ◌∙◌, sym, ap, arith, take}
+use Rattle.std.proofs.Common.{◌∙◌, sym, ap, take}
 use Rattle.std.specs.List.{list_all}
 use Rattle.std.specs.Char.{is_ascii_digit}
 use Rattle.istanbul_rules.proofs.Comments.{digits_before, no_digit, many_digits, not_ended, number_there}

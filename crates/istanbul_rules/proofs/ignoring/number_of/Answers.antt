@@ -1,4 +1,4 @@
-use Rattle.std.proofs.Common.{◌∙◌, ◌+◌, ◌*◌, ◌-◌, arith}
+use Rattle.std.proofs.Common.{arith}
 use Rattle.istanbul_rules.proofs.Comments.{number_fits}
 use Rattle.istanbul_rules.proofs.ignoring.number_of.Goals as goal
 

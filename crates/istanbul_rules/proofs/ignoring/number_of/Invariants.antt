@@ -1,5 +1,5 @@
 use Rattle.std.proofs.Common.{◌≡◌}
-use Rattle.std.proofs.Common.{ℕ, ◌+◌, ◌-◌, ◌*◌, ◌^◌, ◌<◌, drop}
+use Rattle.std.proofs.Common.{◌+◌, ◌-◌, ◌*◌, ◌^◌, ◌<◌, drop}
 use Rattle.std.specs.Prelude.{fold}
 use Rattle.istanbul_rules.specs.Ignored.{spelt}
 use Rattle.istanbul_rules.proofs.ignoring.number_of.Given as goal

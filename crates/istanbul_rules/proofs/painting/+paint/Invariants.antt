@@ -1,4 +1,3 @@
-use Rattle.std.proofs.Common.{◌≡◌}
 use Rattle.std.proofs.Common.{length}
 use Rattle.istanbul_rules.proofs.painting.+paint.Given as goal
 

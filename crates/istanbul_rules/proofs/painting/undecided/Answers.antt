@@ -1,5 +1,4 @@
-use Rattle.std.proofs.Common.{◌≡◌, [], length, get_or, refl, sym, ap, ◌∙◌}
-use Rattle.cov_model.specs.declared.report.Range.{Range}
+use Rattle.std.proofs.Common.{◌≡◌, [], length, get_or, sym, ap, ◌∙◌}
 use Rattle.istanbul_rules.proofs.Painted.{step-over, step-kept, step-beside, is_decided-more, nothing}
 use Rattle.istanbul_rules.proofs.painting.undecided.Goals as goal
 use Rattle.istanbul_rules.proofs.painting.undecided.Goals.{then-goes_over, else-goes_over+then-goes_over-2+in_ok-push, else-goes_over+else-goes_over-2}

@@ -1,4 +1,3 @@
-use Rattle.std.proofs.Common.{◌≡◌}
 use Rattle.std.proofs.Common.{◌++◌, drop}
 use Rattle.istanbul_rules.specs.Painting.{IsSameBetween, IsDecided}
 use Rattle.istanbul_rules.proofs.painting.undecided.Given as goal

@@ -1,5 +1,6 @@
-use Rattle.cov_report.proofs.Fits.{new-fits}
+use Rattle.std.proofs.Common.{ap, ◌∙◌}
+use Rattle.utf16_lines.specs.Lines.{table_of}
 use Rattle.cov_report.proofs.files.PathFile.new.Goals as goal
 
 pub invariant_of-result : goal.invariant_of-result
-invariant_of-result c = new-fits c.args.text _ _ _ c.requires c.as_text.ensures c.in_ok-table.ensures c.new-parts.ensures
+invariant_of-result c = record { short = c.requires; made = c.in_ok-table.ensures ∙ ap table_of c.as_text.ensures }

@@ -1,7 +1,6 @@
-use Rattle.std.proofs.Common.{◌≡◌, ◌++◌, refl, ◌∙◌, sym, ap, subst}
-use Rattle.std.specs.Prelude.{IsTrue, ◌==◌, length, filter, flat_map}
+use Rattle.std.proofs.Common.{◌≡◌, refl, ◌∙◌, ap}
+use Rattle.std.specs.Prelude.{◌==◌, length, filter, flat_map}
 use Rattle.std.specs.List.{list_all}
-use Rattle.istanbul_json.specs.Kept.{IsKeyed}
 use Rattle.istanbul_json.specs.declared.file.Branch.{Branch}
 use Rattle.utf16_lines.specs.Lines.{table_of}
 use Rattle.istanbul_rules.specs.Ignored.{ignored}
@@ -9,7 +8,7 @@ use Rattle.istanbul_rules.specs.File as file
 use Rattle.istanbul_rules.specs.File.{file_coverage}
 use Rattle.istanbul_rules.proofs.Keys.{keyed_in_order}
 use Rattle.istanbul_rules.proofs.Keyed.{few_lines, counts_fit}
-use Rattle.istanbul_rules.proofs.file.file_coverage.Goals as goal
+use Rattle.istanbul_rules.proofs.file.file_coverage_by.Goals as goal
 
 pub statements_of-requires : goal.statements_of-requires
 statements_of-requires c = few_lines c.args.text.now c.as_slice-off.result.now c.requires.short (c.as_slice-off.ensures ∙ c.in_ok-ignored.ensures)
@@ -18,7 +17,7 @@ pub new-requires : goal.new-requires
 new-requires c =
     let off = c.as_slice-off.result.now in
     record {
-      statements = keyed_in_order (file.statement c.in_ok-table.table) (λ s. s.key) (λ k x. refl) (file.counted_from off c.args.parts.now 0) c.in_ok-statements.statements
+      statements = keyed_in_order (file.statement c.args.table.now) (λ s. s.key) (λ k x. refl) (file.counted_from off c.args.parts.now 0) c.in_ok-statements.statements
           c.in_ok-statements.ensures.value c.in_ok-statements.ensures.bound;
       functions = keyed_in_order file.function (λ f. f.key) (λ k x. refl) (filter (file.is_function_on off) (flat_map (λ part. part.functions) c.args.parts.now)) c.in_ok-functions.functions
           c.in_ok-functions.ensures.value c.in_ok-functions.ensures.bound;
@@ -33,7 +32,7 @@ unfolding file_coverage
 returns c =
     let off = c.as_slice-off.ensures ∙ c.in_ok-ignored.ensures in
     let statements : c.in_ok-statements.statements ≡ file.statements_of (table_of c.args.text.now) (ignored c.args.text.now) c.args.parts.now =
-    c.in_ok-statements.ensures.value ∙ (λ i. file.statements_of (c.in_ok-table.ensures i) (off i) c.args.parts.now) in
+    c.in_ok-statements.ensures.value ∙ (λ i. file.statements_of (c.requires.table i) (off i) c.args.parts.now) in
     let functions : c.in_ok-functions.functions ≡ file.functions_in (ignored c.args.text.now) c.args.parts.now =
     c.in_ok-functions.ensures.value ∙ (λ i. file.functions_in (off i) c.args.parts.now) in
     let branches : c.in_ok-branches.branches ≡ file.branches_in (ignored c.args.text.now) c.args.parts.now =
