@@ -5,27 +5,26 @@ use Rattle.clap.specs.Words.{App, IsAmong, Kinds, Row, Text, matches_of}
 use Rattle.clap.specs.Faults.{fault_of}
 use Rattle.clap.specs.declared.error.kind.ErrorKind.{ErrorKind}
 use Rattle.clap.specs.declared.error.kind.ErrorKind.TheVariants.{OutOfMemory}
-use Rattle.cov_words.specs.declared.command.Command.{Command}
-use Rattle.cov_words.specs.Asked.{asked, unless_fault}
+use Rattle.cov_words.specs.Asked.{Finds, FindsNone, asked, unless_fault}
 
 -- no step of the parse fails
-pub asked-found : (app : App) (words : List Text) (rows : List Row) → fault_of app words ≡ [] → rows ≡ matches_of app words
-    → (read : List Row → Option Command) → asked app read words ≡ read rows
+pub asked-found : {C : Type 0} (app : App) (words : List Text) (rows : List Row) → Finds app words rows
+    → (read : List Row → Option C) → asked app read words ≡ read rows
 unfolding asked
-asked-found app words rows none same read =
-    ap (λ (kinds : Kinds). unless_fault kinds (read (matches_of app words))) none ∙ ap read (sym same)
+asked-found app words rows finds read =
+    ap (λ (kinds : Kinds). unless_fault kinds (read (matches_of app words))) finds.0 ∙ ap read (sym finds.1)
 
 -- a step of the parse fails
-asked-none : (app : App) (words : List Text) → (fault_of app words ≡ [] → ⊥) → (read : List Row → Option Command) → asked app read words ≡ None
+pub asked-none : {C : Type 0} (app : App) (words : List Text) → FindsNone app words → (read : List Row → Option C) → asked app read words ≡ None
 unfolding asked
-asked-none app words some read = by (fault_of app words) some
+asked-none {C} app words some read = by (fault_of app words) some
   where
     by : (kinds : Kinds) → (kinds ≡ [] → ⊥) → unless_fault kinds (read (matches_of app words)) ≡ None
     by [] some = absurd (some refl)
     by (kind ∷ kinds) some = refl
 
 -- the parse fails, and not for want of memory
-pub asked-refused : (app : App) (words : List Text) (kind : ErrorKind) → (kind ≡ OutOfMemory → ⊥) → (kind ≡ OutOfMemory) ⊎ IsAmong kind (fault_of app words)
-    → (read : List Row → Option Command) → asked app read words ≡ None
-asked-refused app words kind other (inl memory) = absurd (other memory)
-asked-refused app words kind other (inr among) = asked-none app words (λ none. subst (λ (kinds : Kinds). IsAmong kind kinds) none among)
+pub refused : (app : App) (words : List Text) (kind : ErrorKind) → (kind ≡ OutOfMemory → ⊥) → (kind ≡ OutOfMemory) ⊎ IsAmong kind (fault_of app words)
+    → FindsNone app words
+refused app words kind other (inl memory) = absurd (other memory)
+refused app words kind other (inr among) = λ none. subst (λ (kinds : Kinds). IsAmong kind kinds) none among

@@ -1,3 +1,3 @@
 pub mod Given
 pub mod Simple
-pub mod Percents
+pub mod Numbers

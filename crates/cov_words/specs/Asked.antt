@@ -1,5 +1,5 @@
 -- What the words of a command line ask for. Which words a command takes, and what values they give, is said by clap.
-use Rattle.std.specs.Prelude.{◌≤◌, ℕ, List, [], ◌∷◌, Option, None, Some, if◌then◌else◌, option_map, option_and_then, true, codes}
+use Rattle.std.specs.Prelude.{◌≡◌, ◌≤◌, ℕ, List, [], ◌∷◌, Option, None, Some, if◌then◌else◌, option_map, option_and_then, true, codes}
 use Rattle.std.specs.Str.Parse.{digits_value, without_leading_plus}
 use Rattle.cov_text.specs.Listing.{same_text}
 use Rattle.clap.specs.Words.{App, Kinds, Row, Rule, Text, first_of, one_of, matches_of, new_app, new_rule, with_rule}
@@ -7,19 +7,27 @@ use Rattle.clap.specs.ValueTests.{is_unsigned_in}
 use Rattle.clap.specs.declared.builder.value_parser.ValueParser.TheVariants.{Unsigned}
 use Rattle.clap.specs.Faults.{fault_of}
 use Rattle.cov_words.specs.declared.command.Command.{Command}
-use Rattle.cov_words.specs.declared.command.Command.TheVariants.{Merge, Same, Normal, Report, Check}
+use Rattle.cov_words.specs.declared.command.Command.TheVariants.{Merge, Same, Normal, Upgrade, Report, Check}
 use Rattle.cov_words.specs.declared.command.Form.{Form}
 use Rattle.cov_words.specs.declared.command.Form.TheVariants as form
 
 -- this, where there is no kind of fault
-abbrev pub unless_fault : Kinds → Option Command → Option Command
+abbrev pub unless_fault : {C : Type 0} → Kinds → Option C → Option C
 unless_fault [] given = given
 unless_fault (kind ∷ kinds) given = None
 
 -- What the words ask of a simple command of clap: where no step of its parse of them fails, what is read of the matches
 -- that they have. The first word is the command's name.
-unfoldable pub asked : App → (List Row → Option Command) → List Text → Option Command
+unfoldable pub asked : {C : Type 0} → App → (List Row → Option C) → List Text → Option C
 asked app read words = unless_fault (fault_of app words) (read (matches_of app words))
+
+-- no step of the parse fails, and the words have these matches
+abbrev pub Finds : App → List Text → List Row → Type 0
+Finds app words rows = (fault_of app words ≡ []) × (rows ≡ matches_of app words)
+
+-- a step of the parse fails
+abbrev pub FindsNone : App → List Text → Type 0
+FindsNone app words = fault_of app words ≡ [] → ⊥
 
 -- a positional that has to be given
 abbrev pub wanted : Text → Rule
@@ -39,19 +47,33 @@ same_app = with_rule (with_rule (new_app (codes "same")) (wanted (codes "one")))
 abbrev pub same_from : List Row → Option Command
 same_from rows = option_and_then (λ one. option_map (λ other. Same one other) (first_of (codes "other") rows)) (first_of (codes "one") rows)
 
+-- a command of one file
+abbrev pub file_app : Text → App
+file_app name = with_rule (new_app name) (wanted (codes "file"))
+
 abbrev pub normal_app : App
-normal_app = with_rule (new_app (codes "normal")) (wanted (codes "file"))
+normal_app = file_app (codes "normal")
 
 abbrev pub normal_from : List Row → Option Command
 normal_from rows = option_map (λ file. Normal file) (first_of (codes "file") rows)
+
+abbrev pub upgrade_app : App
+upgrade_app = file_app (codes "upgrade")
+
+abbrev pub upgrade_from : List Row → Option Command
+upgrade_from rows = option_map (λ file. Upgrade file) (first_of (codes "file") rows)
 
 -- an option that has this value where it isn't given
 abbrev pub option : Text → Text → Rule
 option name value = record (new_rule name) { long = Some name; defaults = value ∷ [] }
 
+-- an option whose value is a whole number in bounds, and this one where it isn't given
+abbrev pub number : ℕ → ℕ → Text → Text → Rule
+number least most name value = record (option name value) { parser = Some (Unsigned least most) }
+
 -- an option whose value is a percentage, and 0 where it isn't given
 abbrev pub percent : Text → Rule
-percent name = record (option name (codes "0")) { parser = Some (Unsigned 0 100) }
+percent name = number 0 100 name (codes "0")
 
 -- the form of this name
 abbrev pub form_named : Text → Option Form
@@ -61,12 +83,15 @@ form_named name =
     else if same_text name (codes "text") then Some form.Text
     else None
 
--- the whole number from 0 to 100 that a text is
-abbrev pub percent_in : Text → Option ℕ
-percent_in text = if is_unsigned_in 0 100 text then Some (digits_value 10 (without_leading_plus text)) else None
+-- the whole number in these bounds that a text is
+abbrev pub number_in : ℕ → ℕ → Text → Option ℕ
+number_in least most text = if is_unsigned_in least most text then Some (digits_value 10 (without_leading_plus text)) else None
+
+abbrev pub number_of : ℕ → ℕ → Text → List Row → Option ℕ
+number_of least most name rows = option_and_then (number_in least most) (one_of name rows)
 
 abbrev pub percent_of : Text → List Row → Option ℕ
-percent_of name rows = option_and_then percent_in (one_of name rows)
+percent_of name rows = number_of 0 100 name rows
 
 abbrev pub report_app : App
 report_app = with_rule (with_rule (new_app (codes "report")) (wanted (codes "folder"))) (option (codes "as") (codes "text"))
@@ -94,6 +119,7 @@ abbrev pub HasPercents : Command → Type 0
 HasPercents (Merge folder) = Unit {0}
 HasPercents (Same one other) = Unit {0}
 HasPercents (Normal file) = Unit {0}
+HasPercents (Upgrade file) = Unit {0}
 HasPercents (Report folder form) = Unit {0}
 HasPercents (Check folder lines branches functions) = (lines ≤ 100) × (branches ≤ 100) × (functions ≤ 100)
 
@@ -105,6 +131,7 @@ named name words =
     if same_text name (codes "merge") then asked merge_app merge_from words
     else if same_text name (codes "same") then asked same_app same_from words
     else if same_text name (codes "normal") then asked normal_app normal_from words
+    else if same_text name (codes "upgrade") then asked upgrade_app upgrade_from words
     else if same_text name (codes "report") then asked report_app report_from words
     else if same_text name (codes "check") then asked check_app check_from words
     else None

@@ -1,5 +1,5 @@
 //! What a command line can ask for.
-use cov_text::Text;
+use cov_text::{Items, Text};
 
 /// A command with its words.
 #[derive(Debug, Drop)]
@@ -15,6 +15,10 @@ pub enum Command {
     },
     /// `normal FILE`: whether a file is a normal file.
     Normal {
+        file: Text,
+    },
+    /// `upgrade FILE`: the normal file of what a flat file says.
+    Upgrade {
         file: Text,
     },
     /// `report FOLDER --as FORM`: the report of a folder's texts, as text of this form.
@@ -40,6 +44,33 @@ pub enum Form {
     Lcov,
     /// A table.
     Text,
+}
+
+/// `collect FOLDER --workers N`: the one normal file of a folder's texts, which so many workers take, from 1 to 16.
+#[derive(Debug, Drop)]
+pub struct Collect {
+    pub folder: Text,
+    pub workers: u32,
+}
+
+/// `run --dir FOLDER --as FORM -- WORD..`: a program that leaves its coverage in a folder, and the folder's report in this form.
+#[derive(Debug, Drop)]
+pub struct Run {
+    pub folder: Text,
+    pub form: Form,
+    /// The program and its words. There is one at least.
+    pub words: Items<Text>,
+}
+
+/// The commands of one call: which call reads the words is told by the first of them.
+#[derive(Clone, Copy, Debug, PartialEq, Eq)]
+pub enum Group {
+    /// The commands that read folders and files, each in one thread.
+    Readers,
+    /// `collect`, which works in threads.
+    Workers,
+    /// `run`, which starts a program.
+    Child,
 }
 
 /// Why words ask for no command.

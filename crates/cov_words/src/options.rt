@@ -3,7 +3,7 @@ ghost use Rattle.std.specs.Prelude.{◌≡◌, ◌≤◌, None, Some, false, cod
 ghost use Rattle.clap.specs.Words.{app_of, found_of, rows_of, rule_of};
 ghost use Rattle.clap.specs.declared.builder.value_parser.ValueParser.TheVariants.{Unsigned};
 ghost use Rattle.cov_words.specs.Asked as spec;
-ghost use Rattle.cov_words.specs.Asked.{HasPercents, asked, check_app, check_from, form_named, percent_of, report_app, report_from};
+ghost use Rattle.cov_words.specs.Asked.{HasPercents, asked, check_app, check_from, form_named, number_of, report_app, report_from};
 
 use crate::reading::{parsed, value, wanted};
 use crate::{Command, Form, WordsFault};
@@ -12,18 +12,32 @@ use clap::{Arg, ArgMatches};
 use std::alloc::{AllocError, Global};
 
 /// An option that has this value where it isn't given.
-fn option<'a>(alloc: Global, name: &'a str, value: &'a str) -> Arg<'a>
+pub(crate) fn option<'a>(alloc: Global, name: &'a str, value: &'a str) -> Arg<'a>
     ensures rule { rule_of result ≡ spec.option name.entry.now value.entry.now }
     ensures local { result.global ≡ false }
 {
     Arg::new(alloc, name).long(name).default_value(value)
 }
 
-/// The values of an option that is a percentage.
-fn percents<'a>() -> ValueParser<'a>
-    ensures { result ≡ Unsigned 0 100 }
+/// Whole numbers in bounds.
+fn bounded<'a>(least: u32, most: u32) -> ValueParser<'a>
+    ensures { result ≡ Unsigned least most }
 {
-    clap::value_parser!(u64).range(0..=100)
+    clap::value_parser!(u64).range(least as i64..=most as i64)
+}
+
+/// An option whose value is a whole number in bounds, and this one where it isn't given.
+pub(crate) fn number<'a>(
+    alloc: Global,
+    name: &'a str,
+    least: u32,
+    most: u32,
+    value: &'a str,
+) -> Arg<'a>
+    ensures rule { rule_of result ≡ spec.number least most name.entry.now value.entry.now }
+    ensures local { result.global ≡ false }
+{
+    option(alloc, name, value).value_parser(bounded(least, most))
 }
 
 /// An option whose value is a percentage, and 0 where it isn't given.
@@ -31,26 +45,34 @@ fn percent<'a>(alloc: Global, name: &'a str) -> Arg<'a>
     ensures rule { rule_of result ≡ spec.percent name.entry.now }
     ensures local { result.global ≡ false }
 {
-    option(alloc, name, "0").value_parser(percents())
+    number(alloc, name, 0, 100, "0")
 }
 
-/// The percentage that an option has.
-fn percent_in(matches: &ArgMatches<'_>, name: &str) -> Result<u64, WordsFault>
-    ensures ok { IfOk result (λ n. percent_of name.now (rows_of (found_of matches.now)) ≡ Some n) }
-    ensures usage { IfErr result (λ fault. fault ≡ WordsFault.Usage → percent_of name.now (rows_of (found_of matches.now)) ≡ None) }
-    ensures within { IfOk result (λ n. n ≤ 100) }
+/// The whole number in these bounds that an option has.
+pub(crate) fn number_in(
+    matches: &ArgMatches<'_>,
+    name: &str,
+    least: u64,
+    most: u64,
+) -> Result<u64, WordsFault>
+    ensures ok { IfOk result (λ n. number_of least most name.now (rows_of (found_of matches.now)) ≡ Some n) }
+    ensures usage { IfErr result (λ fault. fault ≡ WordsFault.Usage → number_of least most name.now (rows_of (found_of matches.now)) ≡ None) }
+    ensures within { IfOk result (λ n. (least ≤ n) × (n ≤ most)) }
 {
-    let Some(percent) = matches.get_one::<u64>(name) else {
+    let Some(number) = matches.get_one::<u64>(name) else {
         return Err(WordsFault::Usage);
     };
-    if percent > 100 {
+    if number < least {
         return Err(WordsFault::Usage);
     }
-    Ok(percent)
+    if number > most {
+        return Err(WordsFault::Usage);
+    }
+    Ok(number)
 }
 
 /// The form of this name.
-fn form_of(name: &str) -> Result<Form, WordsFault>
+pub(crate) fn form_of(name: &str) -> Result<Form, WordsFault>
     ensures ok { IfOk result (λ form. form_named name.now ≡ Some form) }
     ensures usage { IfErr result (λ fault. form_named name.now ≡ None) }
 {
@@ -126,15 +148,15 @@ fn check_in(alloc: Global, matches: &ArgMatches<'_>) -> Result<Command, WordsFau
         Ok(folder) => folder,
         Err(fault) => return Err(fault),
     };
-    let lines = match percent_in(matches, "lines") {
+    let lines = match number_in(matches, "lines", 0, 100) {
         Ok(lines) => lines,
         Err(fault) => return Err(fault),
     };
-    let branches = match percent_in(matches, "branches") {
+    let branches = match number_in(matches, "branches", 0, 100) {
         Ok(branches) => branches,
         Err(fault) => return Err(fault),
     };
-    match percent_in(matches, "functions") {
+    match number_in(matches, "functions", 0, 100) {
         Ok(functions) => Ok(Command::Check {
             folder,
             lines,

@@ -2,7 +2,7 @@
 ghost use Rattle.std.specs.Prelude.{◌≡◌, List, Option, None, Some, true, false, map, string_bytes, IfOk, IfErr};
 ghost use Rattle.clap.specs.Words.{Row, app_of, first_of, found_of, is_simple_and_free, rows_of, rule_of};
 ghost use Rattle.cov_words.specs.declared.command.Command.{Command};
-ghost use Rattle.cov_words.specs.Asked.{HasPercents, asked, command_of, merge_app, merge_from, named, normal_app, normal_from, same_app, same_from, wanted};
+ghost use Rattle.cov_words.specs.Asked.{Finds, FindsNone, HasPercents, asked, command_of, file_app, merge_app, merge_from, named, normal_app, normal_from, same_app, same_from, upgrade_app, upgrade_from, wanted};
 
 use crate::options::{read_check, read_report};
 use crate::{Command, WordsFault};
@@ -40,6 +40,8 @@ fn read_named(alloc: Global, name: &str, words: &[String]) -> Result<Command, Wo
         read_same(alloc, words)
     } else if name == "normal" {
         read_normal(alloc, words)
+    } else if name == "upgrade" {
+        read_upgrade(alloc, words)
     } else if name == "report" {
         read_report(alloc, words)
     } else if name == "check" {
@@ -73,6 +75,24 @@ pub(crate) fn value(alloc: Global, matches: &ArgMatches<'_>, id: &str) -> Result
 }
 
 /// What a simple command of `clap` finds in the words.
+pub(crate) fn matches_of<'a>(
+    command: clap::Command<'a>,
+    words: &'a [String],
+) -> Result<ArgMatches<'a>, WordsFault>
+    requires { is_simple_and_free (app_of command) ≡ true }
+    ensures ok { IfOk result (λ matches. Finds (app_of command.entry) (map string_bytes words.entry.now) (rows_of (found_of matches))) }
+    ensures usage { IfErr result (λ fault. fault ≡ WordsFault.Usage → FindsNone (app_of command.entry) (map string_bytes words.entry.now)) }
+{
+    match command.try_get_matches_from(words) {
+        Ok(matches) => Ok(matches),
+        Err(error) => match error.kind() {
+            ErrorKind::OutOfMemory => Err(WordsFault::NoMemory),
+            _ => Err(WordsFault::Usage),
+        },
+    }
+}
+
+/// The same, with what is then asked, whatever is read of the matches.
 pub(crate) fn parsed<'a>(
     command: clap::Command<'a>,
     words: &'a [String],
@@ -83,13 +103,7 @@ pub(crate) fn parsed<'a>(
     ensures usage { IfErr result (λ fault. fault ≡ WordsFault.Usage → (read : List Row → Option Command)
         → asked (app_of command.entry) read (map string_bytes words.entry.now) ≡ None) }
 {
-    match command.try_get_matches_from(words) {
-        Ok(matches) => Ok(matches),
-        Err(error) => match error.kind() {
-            ErrorKind::OutOfMemory => Err(WordsFault::NoMemory),
-            _ => Err(WordsFault::Usage),
-        },
-    }
+    matches_of(command, words)
 }
 
 // ---- each command: how `clap` knows it, and what is read of its matches
@@ -161,10 +175,11 @@ fn read_same(alloc: Global, words: &[String]) -> Result<Command, WordsFault>
     }
 }
 
-fn normal_command<'a>(alloc: Global) -> Result<clap::Command<'a>, AllocError>
-    ensures { IfOk result (λ command. app_of command ≡ normal_app) }
+// A command of this name, of one file.
+fn file_command<'a>(alloc: Global, name: &'a str) -> Result<clap::Command<'a>, AllocError>
+    ensures { IfOk result (λ command. app_of command ≡ file_app name.entry.now) }
 {
-    clap::Command::new(alloc, "normal").arg(wanted(alloc, "file"))
+    clap::Command::new(alloc, name).arg(wanted(alloc, "file"))
 }
 
 fn normal_in(alloc: Global, matches: &ArgMatches<'_>) -> Result<Command, WordsFault>
@@ -183,11 +198,36 @@ fn read_normal(alloc: Global, words: &[String]) -> Result<Command, WordsFault>
     ensures usage { IfErr result (λ fault. fault ≡ WordsFault.Usage → asked normal_app normal_from (map string_bytes words.now) ≡ None) }
     ensures percents { IfOk result HasPercents }
 {
-    let Ok(command) = normal_command(alloc) else {
+    let Ok(command) = file_command(alloc, "normal") else {
         return Err(WordsFault::NoMemory);
     };
     match parsed(command, words) {
         Ok(matches) => normal_in(alloc, &matches),
+        Err(fault) => Err(fault),
+    }
+}
+
+fn upgrade_in(alloc: Global, matches: &ArgMatches<'_>) -> Result<Command, WordsFault>
+    ensures ok { IfOk result (λ command. upgrade_from (rows_of (found_of matches.now)) ≡ Some command) }
+    ensures usage { IfErr result (λ fault. fault ≡ WordsFault.Usage → upgrade_from (rows_of (found_of matches.now)) ≡ None) }
+    ensures percents { IfOk result HasPercents }
+{
+    match value(alloc, matches, "file") {
+        Ok(file) => Ok(Command::Upgrade { file }),
+        Err(fault) => Err(fault),
+    }
+}
+
+fn read_upgrade(alloc: Global, words: &[String]) -> Result<Command, WordsFault>
+    ensures ok { IfOk result (λ command. asked upgrade_app upgrade_from (map string_bytes words.now) ≡ Some command) }
+    ensures usage { IfErr result (λ fault. fault ≡ WordsFault.Usage → asked upgrade_app upgrade_from (map string_bytes words.now) ≡ None) }
+    ensures percents { IfOk result HasPercents }
+{
+    let Ok(command) = file_command(alloc, "upgrade") else {
+        return Err(WordsFault::NoMemory);
+    };
+    match parsed(command, words) {
+        Ok(matches) => upgrade_in(alloc, &matches),
         Err(fault) => Err(fault),
     }
 }

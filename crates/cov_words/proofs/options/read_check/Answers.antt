@@ -1,8 +1,8 @@
-use Rattle.std.proofs.Common.{◌≡◌, sym, ap, ◌∙◌}
+use Rattle.std.proofs.Common.{sym, ap, ◌∙◌}
 use Rattle.std.specs.Prelude.{map, string_bytes}
 use Rattle.std.proofs.lemmas.Result.{IfOk-weaker, IfErr-weaker}
 use Rattle.clap.specs.Words.{App, is_simple_and_free}
-use Rattle.cov_words.specs.Asked.{asked, check_app, check_from}
+use Rattle.cov_words.specs.Asked.{asked, check_from}
 use Rattle.cov_words.proofs.Simple.{check-simple}
 use Rattle.cov_words.proofs.options.read_check.Goals as goal
 

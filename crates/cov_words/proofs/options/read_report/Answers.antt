@@ -1,8 +1,8 @@
-use Rattle.std.proofs.Common.{◌≡◌, sym, ap, ◌∙◌}
+use Rattle.std.proofs.Common.{sym, ap, ◌∙◌}
 use Rattle.std.specs.Prelude.{map, string_bytes}
 use Rattle.std.proofs.lemmas.Result.{IfOk-weaker, IfErr-weaker}
 use Rattle.clap.specs.Words.{App, is_simple_and_free}
-use Rattle.cov_words.specs.Asked.{asked, report_app, report_from}
+use Rattle.cov_words.specs.Asked.{asked, report_from}
 use Rattle.cov_words.proofs.Simple.{report-simple}
 use Rattle.cov_words.proofs.options.read_report.Goals as goal
 

@@ -1,15 +1,13 @@
-use Rattle.std.proofs.Common.{◌∙◌}
 use Rattle.std.specs.Prelude.{map, string_bytes}
-use Rattle.clap.specs.Words.{app_of, kind_of}
-use Rattle.cov_words.proofs.Given.{asked-found, asked-refused}
-use Rattle.cov_words.proofs.Simple.{simple-of}
+use Rattle.std.proofs.lemmas.Result.{IfOk-weaker, IfErr-weaker}
+use Rattle.clap.specs.Words.{app_of}
+use Rattle.cov_words.proofs.Given.{asked-found, asked-none}
 use Rattle.cov_words.proofs.reading.parsed.Goals as goal
 
-pub returns-in-Ok-clause-ok : goal.returns-in-Ok-clause-ok
-returns-in-Ok-clause-ok c =
-    asked-found (app_of c.args.command) (map string_bytes c.args.words.now) _ (c.in-Ok.ensures.kinds c.requires) (c.in-Ok.ensures.matches (simple-of (app_of c.args.command) c.requires)).0
+pub returns-clause-ok : goal.returns-clause-ok
+returns-clause-ok c =
+    IfOk-weaker c.matches_of.result _ _ (λ matches finds read. asked-found (app_of c.args.command) (map string_bytes c.args.words.now) _ finds read) c.matches_of.ensures.ok
 
 pub returns-clause-usage : goal.returns-clause-usage
 returns-clause-usage c =
-    λ _. asked-refused (app_of c.args.command) (map string_bytes c.args.words.now) (kind_of c.in-Err.error) (λ e. c.in_default.not-OutOfMemory (c.kind.ensures ∙ e))
-    (c.in-Err.ensures.kinds c.requires)
+    IfErr-weaker c.matches_of.result _ _ (λ fault none usage read. asked-none (app_of c.args.command) (map string_bytes c.args.words.now) (none usage) read) c.matches_of.ensures.usage
