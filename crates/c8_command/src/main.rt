@@ -1,8 +1,8 @@
 //! The command `c8_command`: the real folder and streams, handed to the commands of `cov_commands`.
 #![tactic(auto)]
 
-use cov_commands::{Ended, run_tool};
-use cov_io::{FolderStore, Sink, StreamSink};
+use cov_commands::{Ended, run};
+use cov_io::{ChildSpawner, FolderStore, NoGate, Sink, StreamSink};
 use std::io::ErrorKind;
 use std::process::ExitCode;
 use std::rt::Runtime;
@@ -20,8 +20,18 @@ fn main(rt: HostRuntime) -> ExitCode {
         Err(_) => Vec::new(rt.alloc()),
     };
     let mut store = FolderStore::new(rt);
+    let mut spawner = ChildSpawner::new(rt);
     let mut out = StreamSink::new(rt.stdout());
-    let ended = run_tool(rt.alloc(), words.as_slice(), &mut store, &mut out, &mut err);
+    let ended = run(
+        &rt,
+        rt.alloc(),
+        words.as_slice(),
+        &mut store,
+        &NoGate,
+        &mut spawner,
+        &mut out,
+        &mut err,
+    );
     ended.status()
 }
 

@@ -7,27 +7,26 @@ use Rattle.std.proofs.lemmas.List.{take_all, length-take-le}
 use Rattle.cov_text.specs.Listing.{max_text}
 use Rattle.cov_model.specs.declared.snapshot.Snapshot.{Snapshot}
 use Rattle.cov_model.specs.declared.snapshot.TextFault.TheVariants.{TooLong, Syntax}
-use Rattle.cov_model.specs.File.{file}
-use Rattle.cov_model.specs.Files.{IsNormalFile, IsNormalFileOf}
+use Rattle.cov_model.specs.declared.report.ListForm.{ListForm}
+use Rattle.cov_model.specs.Files.{IsFileIn, IsFileOf}
 use Rattle.cov_model.specs.Held.{Held, held_of}
 use Rattle.cov_model.specs.Outcome.{Reading, accepted, answers}
 use Rattle.json_shapes.specs.Shapes.{or_fault, parsed, ◌>>=◌}
 use Rattle.cov_model.specs.Reading.{reading, shaped, snapshot_of}
 use Rattle.cov_io.specs.Told.{Files, bytes_at, names_in}
 use Rattle.cov_book.specs.declared.book.Book.{Book}
-use Rattle.cov_book.specs.Stands.{StandsFor}
 use Rattle.cov_commands.specs.Owed.{Owed}
 use Rattle.cov_commands.specs.declared.ended.Ended.{Ended}
 use Rattle.cov_commands.specs.declared.ended.Ended.TheVariants.{Done, Different}
 use Rattle.cov_commands.specs.declared.gather.Merged.{Merged}
-use Rattle.cov_commands.specs.Deciding.{same_sums, is_normal}
-use Rattle.cov_commands.specs.Due.{readings, text_at, text_paths, refused_or_done, same_answer, same_due, accepted_due, refused_due, normal_answer, normal_due, DifferInSums}
+use Rattle.cov_commands.specs.Deciding.{same_sums, snapshot_in}
+use Rattle.cov_commands.specs.Due.{readings, text_at, text_paths, refused_or_done, same_answer, same_due, accepted_due, refused_due, judged_due, file_answer, file_due, DifferInSums}
 use Rattle.cov_laws.specs.Laws.{AreRead}
 use Rattle.cov_laws.proofs.OfTexts.{accepted_read}
 use Rattle.std.proofs.lemmas.Simd.{map-map}
 use Rattle.cov_commands.specs.Gather.{HasTaken}
 use Rattle.cov_commands.specs.Lines.{is_refusal}
-use Rattle.cov_commands.proofs.Decided.{told-same, sums-Decides, normal-is, is-normal, none-normal}
+use Rattle.cov_commands.proofs.Decided.{told-same, sums-Decides, file-is, is-file, none-file}
 
 -- ---- `same`
 
@@ -50,26 +49,26 @@ same-is-due one other files b c m n agree owed h k told is =
     is ∙ ap (λ (t : Bool). same_answer t (m.lines ++ n.lines) (m.refused || n.refused)) agrees
     ∙ ap₂ (λ (xs : List ℕ) (t : Bool). same_answer (same_sums (held_of (accepted rs)) (held_of (accepted qs))) xs t) lines refused
 
--- ---- `normal`
+-- ---- commands of one file
 
-pub too-long : (path bytes : List ℕ) → max_text < length bytes → normal_answer path bytes ≡ refused_due path (codes "too long")
-too-long path bytes longer = rw (lt-ltb max_text (length bytes) longer) refl
+pub too-long : (form : ListForm) (said : Snapshot → List ℕ) (path bytes : List ℕ) → max_text < length bytes → file_answer form said path bytes ≡ refused_due path (codes "too long")
+too-long form said path bytes longer = rw (lt-ltb max_text (length bytes) longer) refl
 
 -- a file that is cut past its greatest size is answered as the whole
-pub answer-cut : (path bytes : List ℕ) → normal_answer path (take 134217729 bytes) ≡ normal_answer path bytes
-answer-cut path bytes =
+answer-cut : (form : ListForm) (said : Snapshot → List ℕ) (path bytes : List ℕ) → file_answer form said path (take 134217729 bytes) ≡ file_answer form said path bytes
+answer-cut form said path bytes =
     elim (cases_lt max_text (length bytes)) [
       | inl longer ↦
           let cut : length (take 134217729 bytes) ≡ 134217729 = length-take-le 134217729 bytes (omega arith) in
           let still : max_text < length (take 134217729 bytes) = omega arith in
-          too-long path (take 134217729 bytes) still ∙ sym (too-long path bytes longer)
-      | inr short ↦ ap (normal_answer path) (take_all 134217729 bytes (omega arith))
+          too-long form said path (take 134217729 bytes) still ∙ sym (too-long form said path bytes longer)
+      | inr short ↦ ap (file_answer form said path) (take_all 134217729 bytes (omega arith))
     ]
 
-pub answer-found : (path : List ℕ) (found : Option (List ℕ)) (bytes : List ℕ) → option_map (take 134217729) found ≡ Some bytes
-    → normal_answer path bytes ≡ normal_answer path (unwrap_or found [])
-answer-found path None bytes e = absurd cc
-answer-found path (Some text) bytes e = ap (normal_answer path) (sym (ap (λ o. unwrap_or o []) e)) ∙ answer-cut path text
+pub answer-found : (form : ListForm) (said : Snapshot → List ℕ) (path : List ℕ) (found : Option (List ℕ)) (bytes : List ℕ) → option_map (take 134217729) found ≡ Some bytes
+    → file_answer form said path bytes ≡ file_answer form said path (unwrap_or found [])
+answer-found form said path None bytes e = absurd cc
+answer-found form said path (Some text) bytes e = ap (file_answer form said path) (sym (ap (λ o. unwrap_or o []) e)) ∙ answer-cut form said path text
 
 pub found-there : (found : Option (List ℕ)) (bytes : List ℕ) → option_map (take 134217729) found ≡ Some bytes → found ≡ None → ⊥
 found-there None bytes e none = absurd cc
@@ -116,30 +115,32 @@ short-read bytes s read = by (nat_lt max_text (length bytes)) refl
     by true e = absurd (let long : Err TooLong ≡ Ok s = sym (ap (λ (t : Bool). cond t (Err TooLong) rest) e) ∙ read in cc)
     by false e = e
 
--- `normal` says that it is done exactly where the bytes are a normal file
-pub tells-normal : (path : List ℕ) (files : Files) (ended : Ended) → ended ≡ (normal_due path files).ended
-    → (ended ≡ Done) ↔ IsNormalFile (unwrap_or (bytes_at path files) [])
-tells-normal path files ended is = (
-  λ done. there (nat_lt max_text (length bytes)) (is_normal bytes) refl (sym is ∙ done),
-  λ normal. is ∙ ap₂ end_of (short-read bytes normal.0 normal.1.read) (is-normal bytes normal.0 normal.1),
+-- a command of one file says that it is done exactly where the bytes are a file with these lists
+pub tells-file : (form : ListForm) (said : Snapshot → List ℕ) (path : List ℕ) (files : Files) (ended : Ended) → ended ≡ (file_due form said path files).ended
+    → (ended ≡ Done) ↔ IsFileIn form (unwrap_or (bytes_at path files) [])
+tells-file form said path files ended is = (
+  λ done. there (nat_lt max_text (length bytes)) (snapshot_in form bytes) refl (sym is ∙ done),
+  λ file. is ∙ ap₂ end_of (short-read bytes file.0 file.1.read) (is-file form bytes file.0 file.1),
 )
   where
     bytes : List ℕ
     bytes = unwrap_or (bytes_at path files) []
 
-    end_of : Bool → Bool → Ended
-    end_of long normal = (cond long (refused_due path (codes "too long")) (cond normal accepted_due (refused_due path (codes "not normal")))).ended
+    end_of : Bool → Option Snapshot → Ended
+    end_of long judged = (cond long (refused_due path (codes "too long")) (judged_due said path judged)).ended
 
-    there : (long normal : Bool) → is_normal bytes ≡ normal → end_of long normal ≡ Done → IsNormalFile bytes
-    there true normal e done = absurd cc
-    there false true e done = normal-is bytes e
-    there false false e done = absurd cc
+    there : (long : Bool) (judged : Option Snapshot) → snapshot_in form bytes ≡ judged → end_of long judged ≡ Done → IsFileIn form bytes
+    there true judged e done = absurd cc
+    there false (Some s) e done = (s, file-is form bytes s e)
+    there false None e done = absurd cc
 
--- what is due for a normal file, and for a file that is none
-pub normal-due : (path bytes : List ℕ) (s : Snapshot) → IsNormalFileOf s bytes → normal_answer path bytes ≡ accepted_due
-normal-due path bytes s normal = rw (short-read bytes s normal.read, is-normal bytes s normal) refl
+-- what is due for such a file
+pub file-due : (form : ListForm) (said : Snapshot → List ℕ) (path bytes : List ℕ) (s : Snapshot) → IsFileOf form s bytes → file_answer form said path bytes ≡ accepted_due (said s)
+file-due form said path bytes s is = rw (short-read bytes s is.read, is-file form bytes s is) refl
 
-pub none-due : (path bytes : List ℕ) → (max_text < length bytes → ⊥) → (IsNormalFile bytes → ⊥) → normal_answer path bytes ≡ refused_due path (codes "not normal")
-none-due path bytes short none =
+-- and for another one
+pub none-due : (form : ListForm) (said : Snapshot → List ℕ) (path bytes : List ℕ) → (max_text < length bytes → ⊥) → (IsFileIn form bytes → ⊥)
+    → file_answer form said path bytes ≡ refused_due path (codes "not normal")
+none-due form said path bytes short none =
     let not_long : nat_lt max_text (length bytes) ≡ false = elim (cases_lt max_text (length bytes)) [ inl longer ↦ absurd (short longer) | inr le ↦ le-ltb max_text (length bytes) le ] in
-    rw (not_long, none-normal bytes none) refl
+    rw (not_long, none-file form bytes none) refl

@@ -1,18 +1,19 @@
 -- The tests tell what is defined as a fact.
-use Rattle.std.proofs.Common.{◌≡◌, ℕ, Bool, true, false, List, [], ◌∷◌, refl, sym, ap, ◌∙◌, eqb-true, eq-eqb}
-use Rattle.std.specs.Prelude.{◌&&◌, ◌==◌, ◌↔◌, IsTrue, Ok, Err}
+use Rattle.std.proofs.Common.{◌≡◌, ℕ, Bool, true, false, List, [], ◌∷◌, refl, sym, ap, ◌∙◌, subst, eqb-true, eq-eqb}
+use Rattle.std.specs.Prelude.{◌&&◌, ◌==◌, ◌↔◌, IsTrue, Ok, Err, Option, None, Some, cond}
 use Rattle.std.specs.Bool.{Decides}
 use Rattle.std.proofs.lemmas.Slice.Eq.{bytes_eq-Decides, slice_eq-Decides}
 use Rattle.cov_text.specs.Listing.{same_text}
 use Rattle.cov_model.specs.declared.snapshot.Snapshot.{Snapshot}
 use Rattle.cov_model.specs.declared.sums.Key.{Key}
-use Rattle.cov_model.specs.File.{file}
-use Rattle.cov_model.specs.Files.{IsNormalFile, IsNormalFileOf}
+use Rattle.cov_model.specs.declared.report.ListForm.{ListForm}
+use Rattle.cov_model.specs.File.{file_in}
+use Rattle.cov_model.specs.Files.{IsFileIn, IsFileOf}
 use Rattle.cov_model.specs.Held.{Held, FunctionSums}
 use Rattle.cov_model.specs.Outcome.{Reading}
 use Rattle.cov_model.specs.Reading.{reading}
 use Rattle.cov_model.specs.Sums.{fits, same_key}
-use Rattle.cov_commands.specs.Deciding.{same_flag, same_function, same_sums, is_file_of, is_normal}
+use Rattle.cov_commands.specs.Deciding.{same_flag, same_function, same_sums, if_file_of, snapshot_in}
 
 -- ---- parts
 
@@ -90,26 +91,32 @@ told-same false h k both_ways = by (same_sums h k) refl
         both_false t = absurd cc
     by false e = sym e
 
--- ---- normal files
+-- ---- files
 
-file-of : (bytes : List ℕ) (r : Reading) → reading bytes ≡ r → is_file_of r bytes ≡ true → IsNormalFile bytes
-file-of bytes (Ok s) read e =
-    let p = both (fits (s ∷ [])) (same_text (file (s ∷ [])) bytes) e in
-    (s, record { read = read; fit = p.0; same = (bytes_eq-Decides (file (s ∷ [])) bytes).0 p.1 })
-file-of bytes (Err fault) read e = absurd cc
-
-pub normal-is : (bytes : List ℕ) → is_normal bytes ≡ true → IsNormalFile bytes
-unfolding is_normal
-normal-is bytes e = file-of bytes (reading bytes) refl e
-
-pub is-normal : (bytes : List ℕ) (s : Snapshot) → IsNormalFileOf s bytes → is_normal bytes ≡ true
-unfolding is_normal
-is-normal bytes s normal =
-    ap (λ (r : Reading). is_file_of r bytes) normal.read ∙ and-is _ _ normal.fit ((bytes_eq-Decides (file (s ∷ [])) bytes).1 normal.same)
-
-pub none-normal : (bytes : List ℕ) → (IsNormalFile bytes → ⊥) → is_normal bytes ≡ false
-none-normal bytes none = by (is_normal bytes) refl
+file-of : (form : ListForm) (bytes : List ℕ) (s : Snapshot) (r : Reading) → reading bytes ≡ r → if_file_of form r bytes ≡ Some s → IsFileOf form s bytes
+file-of form bytes s (Ok t) read e = by (fits (t ∷ []) && same_text (file_in form (t ∷ [])) bytes) refl e
   where
-    by : (b : Bool) → is_normal bytes ≡ b → is_normal bytes ≡ false
-    by true e = absurd (none (normal-is bytes e))
-    by false e = e
+    by : (b : Bool) → (fits (t ∷ []) && same_text (file_in form (t ∷ [])) bytes) ≡ b → cond b (Some t) None ≡ Some s → IsFileOf form s bytes
+    by true is e =
+        let p = both (fits (t ∷ [])) (same_text (file_in form (t ∷ [])) bytes) is in
+        let same : t ≡ s = cc in
+        subst (λ u. IsFileOf form u bytes) same (record { read = read; fit = p.0; same = (bytes_eq-Decides (file_in form (t ∷ [])) bytes).0 p.1 })
+    by false is e = absurd cc
+file-of form bytes s (Err fault) read e = absurd cc
+
+pub file-is : (form : ListForm) (bytes : List ℕ) (s : Snapshot) → snapshot_in form bytes ≡ Some s → IsFileOf form s bytes
+unfolding snapshot_in
+file-is form bytes s e = file-of form bytes s (reading bytes) refl e
+
+pub is-file : (form : ListForm) (bytes : List ℕ) (s : Snapshot) → IsFileOf form s bytes → snapshot_in form bytes ≡ Some s
+unfolding snapshot_in
+is-file form bytes s is =
+    ap (λ (r : Reading). if_file_of form r bytes) is.read
+    ∙ ap (λ b. cond b (Some s) None) (and-is _ _ is.fit ((bytes_eq-Decides (file_in form (s ∷ [])) bytes).1 is.same))
+
+pub none-file : (form : ListForm) (bytes : List ℕ) → (IsFileIn form bytes → ⊥) → snapshot_in form bytes ≡ None
+none-file form bytes none = by (snapshot_in form bytes) refl
+  where
+    by : (o : Option Snapshot) → snapshot_in form bytes ≡ o → snapshot_in form bytes ≡ None
+    by None e = e
+    by (Some s) e = absurd (none (s, file-is form bytes s e))

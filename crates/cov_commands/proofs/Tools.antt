@@ -1,24 +1,25 @@
 -- What the readers of files come to.
 use Rattle.std.proofs.Common.{◌≡◌, ℕ, Bool, true, false, List, take, refl, sym, ap, ◌∙◌, subst, arith, inl, inr}
-use Rattle.std.specs.Prelude.{◌⊎◌, ◌↔◌, Some, Ok, IsTrue, cond, option_map, nat_lt, length, codes}
+use Rattle.std.specs.Prelude.{◌⊎◌, ◌↔◌, Option, None, Some, Ok, IsTrue, cond, option_map, nat_lt, length, codes}
 use Rattle.std.proofs.lemmas.Bool.{false≢true}
 use Rattle.cov_text.specs.Listing.{max_text}
 use Rattle.cov_io.specs.Told.{WhereTold, bytes_at}
+use Rattle.cov_model.specs.declared.report.ListForm.{ListForm}
+use Rattle.cov_model.specs.declared.snapshot.Snapshot.{Snapshot}
 use Rattle.cov_model.specs.File.{file}
 use Rattle.cov_model.specs.Outcome.{accepted}
 use Rattle.cov_words.specs.declared.command.Command.{Command}
-use Rattle.cov_words.specs.declared.command.Command.TheVariants.{Merge, Same, Normal, Report, Check}
+use Rattle.cov_words.specs.declared.command.Command.TheVariants.{Merge, Same, Normal, Upgrade, Report, Check}
 use Rattle.cov_commands.specs.declared.due.Due.{Due}
 use Rattle.cov_commands.specs.declared.ended.Ended.{Ended}
-use Rattle.cov_commands.specs.declared.ended.Ended.TheVariants.{Done, Different, Below, Usage, SomeRefused, ReadFault, WriteFault, NoMemory}
-use Rattle.cov_commands.specs.Deciding.{is_normal}
-use Rattle.cov_commands.specs.Due.{refused_or_done, same_answer, same_due, normal_answer, normal_due, accepted_due, refused_due, readings, FolderIsMissing}
+use Rattle.cov_commands.specs.declared.ended.Ended.TheVariants.{Done, Different, Below, Usage, SomeRefused, ReadFault, WriteFault, SpawnFault, Child, NoMemory}
+use Rattle.cov_commands.specs.Deciding.{snapshot_in}
+use Rattle.cov_commands.specs.Due.{refused_or_done, same_answer, same_due, judged_due, file_answer, file_due, refused_due, readings, FolderIsMissing}
 use Rattle.cov_commands.specs.Ends.{IsFinished, IsFinishedOrShort}
 use Rattle.cov_commands.specs.Owed.{Owed, Gives, owed_of}
 use Rattle.cov_commands.specs.Stores.{StoreAt, StillTells}
-use Rattle.cov_commands.specs.Call.{EndsEarly}
-use Rattle.cov_commands.specs.Tool.{Reader, reading_duty, IsPlainEnd, merge_reader, same_reader, normal_reader, report_reader, check_reader, tool_duty}
-use Rattle.cov_commands.proofs.Answered.{answer-found, found-there, differs, no-same-end, tells-normal}
+use Rattle.cov_commands.specs.Tool.{Reader, reading_duty, IsPlainEnd, merge_reader, same_reader, file_reader, normal_reader, upgrade_reader, report_reader, check_reader, tool_duty}
+use Rattle.cov_commands.proofs.Answered.{answer-found, found-there, differs, no-same-end, tells-file}
 use Rattle.cov_commands.proofs.Calls.{IsLawful}
 
 -- ---- ends
@@ -31,13 +32,13 @@ pub plain-finished : (ended : Ended) → IsPlainEnd ended → IsFinished ended
 plain-finished ended (inl is) = subst IsFinished (sym is) tt
 plain-finished ended (inr is) = subst IsFinished (sym is) tt
 
-pub answer-plain : (path bytes : List ℕ) → IsPlainEnd (normal_answer path bytes).ended
-answer-plain path bytes = by (nat_lt max_text (length bytes)) (is_normal bytes)
+answer-plain : (form : ListForm) (said : Snapshot → List ℕ) (path bytes : List ℕ) → IsPlainEnd (file_answer form said path bytes).ended
+answer-plain form said path bytes = by (nat_lt max_text (length bytes)) (snapshot_in form bytes)
   where
-    by : (long normal : Bool) → IsPlainEnd (cond long (refused_due path (codes "too long")) (cond normal accepted_due (refused_due path (codes "not normal")))).ended
-    by true normal = inr refl
-    by false true = inl refl
-    by false false = inr refl
+    by : (long : Bool) (judged : Option Snapshot) → IsPlainEnd (cond long (refused_due path (codes "too long")) (judged_due said path judged)).ended
+    by true judged = inr refl
+    by false (Some s) = inl refl
+    by false None = inr refl
 
 same-ends : (agree : Bool) (lines : List ℕ) (refused : Bool) → IsPlainEnd (same_answer agree lines refused).ended ⊎ ((same_answer agree lines refused).ended ≡ Different)
 same-ends true lines refused = inl (plain-end refused)
@@ -55,16 +56,16 @@ same-finished ended (inr is) = subst IsFinished (sym is) tt
 -- ---- the readers
 
 module _ {S : Type 0} (before now : StoreAt S) where
-  pub reads-normal : (path bytes : List ℕ) (due : Due) → WhereTold before.files (λ files. option_map (take 134217729) (bytes_at path files) ≡ Some bytes)
-      → owed_of due ≡ normal_answer path bytes → now.faults ≡ before.faults → StillTells before now → Gives (reading_duty (normal_reader path)) before now (Ok due)
-  reads-normal path bytes due found is kept still =
-      let plain : IsPlainEnd due.ended = subst (λ (d : Owed). IsPlainEnd d.ended) (sym is) (answer-plain path bytes) in
+  pub reads-file : (form : ListForm) (said : Snapshot → List ℕ) (path bytes : List ℕ) (due : Due) → WhereTold before.files (λ files. option_map (take 134217729) (bytes_at path files) ≡ Some bytes)
+      → owed_of due ≡ file_answer form said path bytes → now.faults ≡ before.faults → StillTells before now → Gives (reading_duty (file_reader form said path)) before now (Ok due)
+  reads-file form said path bytes due found is kept still =
+      let plain : IsPlainEnd due.ended = subst (λ (d : Owed). IsPlainEnd d.ended) (sym is) (answer-plain form said path bytes) in
       record {
         ok = record {
           either = inl (record {
             due = λ files told.
-                let owes : owed_of due ≡ normal_due path files = is ∙ answer-found path (bytes_at path files) bytes (found files told) in
-                record { due = owes; normal = tells-normal path files due.ended (ap (λ (d : Owed). d.ended) owes) };
+                let owes : owed_of due ≡ file_due form said path files = is ∙ answer-found form said path (bytes_at path files) bytes (found files told) in
+                record { due = owes; accepted = tells-file form said path files due.ended (ap (λ (d : Owed). d.ended) owes) };
             ends = plain;
             finished = plain-finished due.ended plain;
             there = λ missing. found-there (bytes_at path missing.0) bytes (found missing.0 missing.1) missing.2;
@@ -116,6 +117,8 @@ finished-short Usage h = absurd h
 finished-short SomeRefused h = tt
 finished-short ReadFault h = absurd h
 finished-short WriteFault h = absurd h
+finished-short SpawnFault h = absurd h
+finished-short (Child status) h = tt
 finished-short NoMemory h = absurd h
 
 pub stopped : (ended : Ended) → (ended ≡ ReadFault) ⊎ (ended ≡ NoMemory) → IsFinished ended → ⊥
@@ -171,5 +174,6 @@ pub tool-lawful : {S : Type 0} (command : Command) → IsLawful (tool_duty {S = 
 tool-lawful (Merge folder) = lawful (merge_reader folder)
 tool-lawful (Same one other) = lawful (same_reader one other)
 tool-lawful (Normal path) = lawful (normal_reader path)
+tool-lawful (Upgrade path) = lawful (upgrade_reader path)
 tool-lawful (Report folder form) = lawful (report_reader form folder)
 tool-lawful (Check folder lines branches functions) = lawful (check_reader lines branches functions folder)

@@ -1,5 +1,5 @@
 -- One call of a command: `Call` is the whole contract of a top call, for any type of commands.
-use Rattle.std.specs.Prelude.{◌≡◌, ◌≤◌, ◌⊎◌, ℕ, List, [], take, Option, None}
+use Rattle.std.specs.Prelude.{◌≡◌, ◌≤◌, ◌⊎◌, ℕ, [], take, Option, None}
 use Rattle.cov_io.specs.Told.{WhereTold}
 use Rattle.cov_commands.specs.declared.ended.Ended.{Ended}
 use Rattle.cov_commands.specs.declared.ended.Ended.TheVariants.{Usage, WriteFault, ReadFault, NoMemory}

@@ -1,8 +1,10 @@
 -- Tests of what is defined as a fact.
-use Rattle.std.specs.Prelude.{ℕ, Bool, true, false, ◌&&◌, ◌==◌, List, [], ◌∷◌, Ok, Err}
+use Rattle.std.specs.Prelude.{ℕ, Bool, true, false, ◌&&◌, ◌==◌, List, [], ◌∷◌, Ok, Err, Option, None, Some, if◌then◌else◌}
 use Rattle.std.specs.Cmp.Lexicographic.{pointwise}
 use Rattle.cov_text.specs.Listing.{same_text}
-use Rattle.cov_model.specs.File.{file}
+use Rattle.cov_model.specs.declared.report.ListForm.{ListForm}
+use Rattle.cov_model.specs.declared.snapshot.Snapshot.{Snapshot}
+use Rattle.cov_model.specs.File.{file_in}
 use Rattle.cov_model.specs.Held.{Held, FunctionSums}
 use Rattle.cov_model.specs.Outcome.{Reading}
 use Rattle.cov_model.specs.Reading.{reading}
@@ -23,12 +25,13 @@ same_function f g = same_key f.key g.key && (same_flag f.block g.block && ((f.ro
 unfoldable pub same_sums : Held → Held → Bool
 same_sums h k = pointwise same_text h.urls k.urls && pointwise same_function h.functions k.functions
 
--- ---- normal files
+-- ---- files
 
-abbrev pub is_file_of : Reading → List ℕ → Bool
-is_file_of (Ok snapshot) bytes = fits (snapshot ∷ []) && same_text (file (snapshot ∷ [])) bytes
-is_file_of (Err fault) bytes = false
+-- the snapshot that was read, where the bytes are its file with lists of this form
+abbrev pub if_file_of : ListForm → Reading → List ℕ → Option Snapshot
+if_file_of form (Ok snapshot) bytes = if fits (snapshot ∷ []) && same_text (file_in form (snapshot ∷ [])) bytes then Some snapshot else None
+if_file_of form (Err fault) bytes = None
 
--- the bytes are read as a snapshot that fits, and its file is these bytes
-unfoldable pub is_normal : List ℕ → Bool
-is_normal bytes = is_file_of (reading bytes) bytes
+-- the snapshot whose file with lists of this form the bytes are
+unfoldable pub snapshot_in : ListForm → List ℕ → Option Snapshot
+snapshot_in form bytes = if_file_of form (reading bytes) bytes

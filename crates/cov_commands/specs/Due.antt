@@ -1,8 +1,9 @@
 -- What each command owes: what goes to the output, what goes to the error sink, and how it ends.
-use Rattle.std.specs.Prelude.{◌≡◌, ◌++◌, ◌||◌, ℕ, Bool, List, [], map, filter, length, nat_eq, nat_lt, if◌then◌else◌, Option, None, unwrap_or, codes, IsFalse}
+use Rattle.std.specs.Prelude.{◌≡◌, ◌++◌, ◌||◌, ℕ, Bool, List, [], ◌∷◌, map, filter, length, nat_eq, nat_lt, if◌then◌else◌, Option, None, Some, unwrap_or, codes, IsFalse}
 use Rattle.std.specs.List.{list_any, ends_with}
 use Rattle.cov_text.specs.Listing.{max_text}
 use Rattle.cov_model.specs.declared.snapshot.Snapshot.{Snapshot}
+use Rattle.cov_model.specs.declared.report.ListForm.{ListForm}
 use Rattle.cov_model.specs.File.{file}
 use Rattle.cov_model.specs.Held.{held_of}
 use Rattle.cov_model.specs.Reading.{reading}
@@ -23,7 +24,7 @@ use Rattle.cov_commands.specs.declared.ended.Ended.{Ended}
 use Rattle.cov_commands.specs.declared.ended.Ended.TheVariants.{Done, Different, Below, SomeRefused}
 use Rattle.cov_commands.specs.Owed.{Owed}
 use Rattle.cov_commands.specs.Lines.{answer_lines, is_refusal, refused}
-use Rattle.cov_commands.specs.Deciding.{same_sums, is_normal}
+use Rattle.cov_commands.specs.Deciding.{same_sums, snapshot_in}
 
 -- ---- texts
 
@@ -87,19 +88,31 @@ same_due one other files =
 abbrev pub refused_due : List ℕ → List ℕ → Owed
 refused_due path why = record { out = []; err = refused path why; ended = SomeRefused }
 
--- what is due for a normal file
-abbrev pub accepted_due : Owed
-accepted_due = record { out = codes "normal\n"; err = []; ended = Done }
+-- what is due for a file that is accepted, with this on the output
+abbrev pub accepted_due : List ℕ → Owed
+accepted_due out = record { out = out; err = []; ended = Done }
 
--- What is due for these bytes of the file at a path: they are too long, or a normal file, or none.
-abbrev pub normal_answer : List ℕ → List ℕ → Owed
-normal_answer path bytes =
+-- what is due for the file of a snapshot, of which this is said, or for another file
+abbrev pub judged_due : (Snapshot → List ℕ) → List ℕ → Option Snapshot → Owed
+judged_due said path None = refused_due path (codes "not normal")
+judged_due said path (Some snapshot) = accepted_due (said snapshot)
+
+-- What is due for these bytes of the file at a path: they are too long, or a snapshot's file with lists of this form, or none.
+abbrev pub file_answer : ListForm → (Snapshot → List ℕ) → List ℕ → List ℕ → Owed
+file_answer form said path bytes =
     if nat_lt max_text (length bytes) then refused_due path (codes "too long")
-    else if is_normal bytes then accepted_due
-    else refused_due path (codes "not normal")
+    else judged_due said path (snapshot_in form bytes)
 
-abbrev pub normal_due : List ℕ → Files → Owed
-normal_due path files = normal_answer path (unwrap_or (bytes_at path files) [])
+abbrev pub file_due : ListForm → (Snapshot → List ℕ) → List ℕ → Files → Owed
+file_due form said path files = file_answer form said path (unwrap_or (bytes_at path files) [])
+
+-- what `normal` says of the snapshot of a normal file
+abbrev pub normal_word : Snapshot → List ℕ
+normal_word snapshot = codes "normal\n"
+
+-- what `upgrade` makes of the snapshot of a flat file
+abbrev pub normal_file : Snapshot → List ℕ
+normal_file snapshot = file (snapshot ∷ [])
 
 -- the two lists come to other sums: another url, function, flag, root sum or sum at an offset
 abbrev pub DifferInSums : List Snapshot → List Snapshot → Type 0

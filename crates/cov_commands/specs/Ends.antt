@@ -5,7 +5,7 @@ use Rattle.cov_io.specs.declared.store.StoreFault.{StoreFault}
 use Rattle.cov_io.specs.declared.store.StoreFault.TheVariants as store
 use Rattle.cov_io.specs.declared.store.StoreFault.TheVariants.{Failed, Absent}
 use Rattle.cov_commands.specs.declared.ended.Ended.{Ended}
-use Rattle.cov_commands.specs.declared.ended.Ended.TheVariants.{Done, Different, Below, Usage, SomeRefused, ReadFault, WriteFault, NoMemory}
+use Rattle.cov_commands.specs.declared.ended.Ended.TheVariants.{Done, Different, Below, Usage, SomeRefused, ReadFault, WriteFault, SpawnFault, Child, NoMemory}
 
 -- it came to its end
 abbrev pub IsFinished : Ended → Type 0
@@ -16,6 +16,8 @@ IsFinished Usage = ⊥
 IsFinished SomeRefused = Unit {0}
 IsFinished ReadFault = ⊥
 IsFinished WriteFault = ⊥
+IsFinished SpawnFault = ⊥
+IsFinished (Child status) = Unit {0}
 IsFinished NoMemory = ⊥
 
 -- it came to its end, or there was no memory for it
@@ -27,6 +29,8 @@ IsFinishedOrShort Usage = ⊥
 IsFinishedOrShort SomeRefused = Unit {0}
 IsFinishedOrShort ReadFault = ⊥
 IsFinishedOrShort WriteFault = ⊥
+IsFinishedOrShort SpawnFault = ⊥
+IsFinishedOrShort (Child status) = Unit {0}
 IsFinishedOrShort NoMemory = Unit {0}
 
 -- the last line on the error sink of a command that didn't
@@ -34,10 +38,12 @@ abbrev pub last_line : Ended → List ℕ
 last_line Done = []
 last_line Different = []
 last_line Below = []
-last_line Usage = codes "usage: merge same normal report check make collect serve attach run\n"
+last_line Usage = codes "usage: merge same normal report check make collect serve attach run upgrade\n"
 last_line SomeRefused = []
 last_line ReadFault = codes "fault: read\n"
 last_line WriteFault = codes "fault: write\n"
+last_line SpawnFault = codes "fault: child\n"
+last_line (Child status) = []
 last_line NoMemory = codes "fault: memory\n"
 
 -- how a fault of the store ends a command
@@ -55,4 +61,6 @@ HasWriteCause before now Usage = ⊥
 HasWriteCause before now SomeRefused = ⊥
 HasWriteCause before now ReadFault = ⊥
 HasWriteCause before now WriteFault = Rose before now
+HasWriteCause before now SpawnFault = ⊥
+HasWriteCause before now (Child status) = ⊥
 HasWriteCause before now NoMemory = Unit {0}

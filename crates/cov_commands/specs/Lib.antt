@@ -12,3 +12,7 @@ pub mod Sinks
 pub mod Stores
 pub mod Call
 pub mod Tool
+pub mod Child
+pub mod Collect
+pub mod Gathering
+pub mod Top

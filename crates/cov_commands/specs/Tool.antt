@@ -2,14 +2,17 @@
 use Rattle.std.specs.Prelude.{◌≡◌, ◌⊎◌, ◌↔◌, ℕ, List, [], Option, unwrap_or}
 use Rattle.cov_io.specs.Causes.{Rose}
 use Rattle.cov_io.specs.Told.{Files, WhereTold, bytes_at}
-use Rattle.cov_model.specs.Files.{IsNormalFile}
+use Rattle.cov_model.specs.declared.report.ListForm.{ListForm}
+use Rattle.cov_model.specs.declared.report.ListForm.TheVariants.{Nested, Flat}
+use Rattle.cov_model.specs.declared.snapshot.Snapshot.{Snapshot}
+use Rattle.cov_model.specs.Files.{IsFileIn}
 use Rattle.cov_model.specs.Outcome.{accepted}
 use Rattle.cov_words.specs.declared.command.Command.{Command}
-use Rattle.cov_words.specs.declared.command.Command.TheVariants.{Merge, Same, Normal, Report, Check}
+use Rattle.cov_words.specs.declared.command.Command.TheVariants.{Merge, Same, Normal, Upgrade, Report, Check}
 use Rattle.cov_words.specs.declared.command.Form.{Form}
 use Rattle.cov_commands.specs.declared.ended.Ended.{Ended}
 use Rattle.cov_commands.specs.declared.ended.Ended.TheVariants.{Done, Different, Below, SomeRefused}
-use Rattle.cov_commands.specs.Due.{merge_due, same_due, normal_due, report_due, check_due, readings, DifferInSums, DifferInBytes, FolderIsMissing, FileIsMissing}
+use Rattle.cov_commands.specs.Due.{merge_due, same_due, file_due, normal_word, normal_file, report_due, check_due, readings, DifferInSums, DifferInBytes, FolderIsMissing, FileIsMissing}
 use Rattle.cov_commands.specs.Counting.{CountsSkips}
 use Rattle.cov_commands.specs.Ends.{IsFinished}
 use Rattle.cov_commands.specs.Owed.{Owed, Duty, early}
@@ -84,18 +87,25 @@ same_reader one other = record {
   counts = Stays;
 }
 
--- The file is a normal file exactly where it says `Done`.
-pub record OwesNormal (path : List ℕ) (files : Files) (owed : Owed) : Type 0 where
-  pub due : owed ≡ normal_due path files
-  pub normal : (owed.ended ≡ Done) ↔ IsNormalFile (unwrap_or (bytes_at path files) [])
+-- The file has lists of this form exactly where it says `Done`.
+pub record OwesFile (form : ListForm) (said : Snapshot → List ℕ) (path : List ℕ) (files : Files) (owed : Owed) : Type 0 where
+  pub due : owed ≡ file_due form said path files
+  pub accepted : (owed.ended ≡ Done) ↔ IsFileIn form (unwrap_or (bytes_at path files) [])
 
-abbrev pub normal_reader : List ℕ → Reader
-normal_reader path = record {
-  due = OwesNormal path;
+-- a command of one file
+abbrev pub file_reader : ListForm → (Snapshot → List ℕ) → List ℕ → Reader
+file_reader form said path = record {
+  due = OwesFile form said path;
   ends = IsPlainEnd;
   absent = λ files folders. FileIsMissing files path;
   counts = Stays;
 }
+
+abbrev pub normal_reader : List ℕ → Reader
+normal_reader = file_reader Nested normal_word
+
+abbrev pub upgrade_reader : List ℕ → Reader
+upgrade_reader = file_reader Flat normal_file
 
 abbrev pub report_reader : Form → List ℕ → Reader
 report_reader form folder = record {
@@ -118,6 +128,7 @@ abbrev pub duty_of : {S : Type 0} → Command → Duty (StoreAt S)
 duty_of (Merge folder) = reading_duty (merge_reader folder)
 duty_of (Same one other) = reading_duty (same_reader one other)
 duty_of (Normal path) = reading_duty (normal_reader path)
+duty_of (Upgrade path) = reading_duty (upgrade_reader path)
 duty_of (Report folder form) = reading_duty (report_reader form folder)
 duty_of (Check folder lines branches functions) = reading_duty (check_reader lines branches functions folder)
 

@@ -23,6 +23,10 @@ pub enum Ended {
     ReadFault,
     /// The output or the error sink failed.
     WriteFault,
+    /// The program wasn't run to its end.
+    SpawnFault,
+    /// The command came to its end, and the program that it ran ended with this status, which isn't 0.
+    Child(u8),
     /// There was no memory.
     NoMemory,
 }
@@ -41,6 +45,8 @@ impl Ended {
             Ended::ReadFault => 4,
             Ended::WriteFault => 5,
             Ended::NoMemory => 6,
+            Ended::SpawnFault => 9,
+            Ended::Child(status) => *status,
         }
     }
 

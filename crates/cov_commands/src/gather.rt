@@ -151,13 +151,13 @@ fn take_name<S: Store>(
     }
 }
 
-fn is_json(name: &str) -> bool
+pub fn is_json(name: &str) -> bool
     ensures { result ≡ due.is_json name.now }
 {
     name.as_bytes().ends_with(b".json")
 }
 
-fn path_of(alloc: Global, folder: &str, name: &str) -> Result<String, AllocError>
+pub fn path_of(alloc: Global, folder: &str, name: &str) -> Result<String, AllocError>
     ensures { IfOk result (λ path. string_bytes path ≡ path_in folder.now name.now) }
 {
     format!(in alloc; "{folder}/{name}")

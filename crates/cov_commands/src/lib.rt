@@ -2,10 +2,13 @@
 #![tactic(auto)]
 
 mod check;
+mod child;
+mod collect;
 mod due;
 mod ended;
 mod faults;
 mod gather;
+mod judge;
 mod lines;
 mod merge;
 mod normal;
@@ -14,6 +17,12 @@ mod report;
 mod reporting;
 mod same;
 mod tool;
+mod top;
+mod upgrade;
+mod workers;
 
+pub use child::run_child;
 pub use ended::Ended;
 pub use tool::{run_sure, run_tool};
+pub use top::run;
+pub use workers::run_collect;

@@ -1,8 +1,9 @@
 //! The command `normal FILE`.
-ghost use Rattle.std.specs.Prelude.{◌≡◌, ◌≤◌, ◌⊎◌, IfOk, IfErr, OnOk};
+ghost use Rattle.std.specs.Prelude.{◌≡◌, ◌≤◌, ◌⊎◌, IfOk, IfErr, OnOk, codes};
 ghost use Rattle.cov_io.specs.Causes.{Rose};
 ghost use Rattle.cov_io.specs.Told.{WhereTold};
-ghost use Rattle.cov_commands.specs.Due.{accepted_due, normal_answer, normal_due, refused_due, FileIsMissing};
+ghost use Rattle.cov_model.specs.declared.report.ListForm.TheVariants.{Nested};
+ghost use Rattle.cov_commands.specs.Due.{FileIsMissing, accepted_due, file_answer, normal_word};
 ghost use Rattle.cov_commands.specs.Ends.{IsFinished};
 ghost use Rattle.cov_commands.specs.Owed.{Gives, owed_of};
 ghost use Rattle.cov_commands.specs.Stores.{store_at};
@@ -11,10 +12,9 @@ ghost use Rattle.cov_commands.specs.Tool.{normal_reader, reading_duty};
 use crate::Ended;
 use crate::due::Due;
 use crate::gather::{MOST, ended_by};
-use crate::lines::refused;
-use cov_files::{NormalFault, read_normal};
+use crate::judge::{accepted_file, refused_file};
+use cov_files::read_normal;
 use cov_io::Store;
-use cov_model::Items;
 use std::alloc::{AllocError, Global};
 
 /// What `normal FILE` owes: reads the file, and says whether it is a normal file.
@@ -35,36 +35,18 @@ pub fn normal<S: Store>(alloc: Global, store: &mut S, path: &str) -> Result<Due,
 
 /// What is due for these bytes of the file at a path.
 fn judged(alloc: Global, path: &str, bytes: &[u8]) -> Result<Due, AllocError>
-    ensures { IfOk result (λ due. owed_of due ≡ normal_answer path.now bytes.now) }
+    ensures { IfOk result (λ due. owed_of due ≡ file_answer Nested normal_word path.now bytes.now) }
 {
     match read_normal(alloc, bytes) {
-        Ok(_) => accepted_file(alloc),
-        Err(NormalFault::TooLong) => refused_file(alloc, path, b"too long"),
-        Err(NormalFault::NotNormal) => refused_file(alloc, path, b"not normal"),
-        Err(NormalFault::NoMemory) => Err(AllocError),
+        Ok(_book) => normal_word(alloc),
+        Err(fault) => refused_file(alloc, path, fault),
     }
 }
 
 /// What is due for a normal file.
-fn accepted_file(alloc: Global) -> Result<Due, AllocError>
-    ensures { IfOk result (λ due. owed_of due ≡ accepted_due) }
+fn normal_word(alloc: Global) -> Result<Due, AllocError>
+    ensures { IfOk result (λ due. owed_of due ≡ accepted_due (codes "normal\n")) }
 {
-    let out = Items::from_slice(alloc, b"normal\n")?;
-    Ok(Due {
-        out,
-        err: Items::new(alloc),
-        ended: Ended::Done,
-    })
-}
-
-/// What is due for a file that is refused for this.
-fn refused_file(alloc: Global, path: &str, why: &[u8]) -> Result<Due, AllocError>
-    ensures { IfOk result (λ due. owed_of due ≡ refused_due path.now why.now) }
-{
-    let line = refused(alloc, path, why)?;
-    Ok(Due {
-        out: Items::new(alloc),
-        err: Items::from_vec(line),
-        ended: Ended::SomeRefused,
-    })
+    let word = Vec::from_slice(alloc, b"normal\n")?;
+    Ok(accepted_file(alloc, word))
 }

@@ -17,6 +17,7 @@ use crate::normal::normal;
 use crate::put::{put, put_due};
 use crate::report::report;
 use crate::same::same;
+use crate::upgrade::upgrade;
 use cov_io::{Sink, Store, SureSink, SureStore};
 use cov_words::{Command, WordsFault, read_words};
 use std::alloc::Global;
@@ -27,6 +28,7 @@ use std::alloc::Global;
 ///   writes the one normal file of these to `out`;
 /// - `same ONE OTHER` reads the texts of both folders so, and writes `same` or `different`, as their sums are;
 /// - `normal FILE` writes `normal` where the file is a normal file;
+/// - `upgrade FILE` writes the normal file of what a flat file says, as older files are;
 /// - `report FOLDER --as FORM` reads the texts as `merge` does, with what they say of the maps of their scripts, and writes the
 ///   coverage of the files behind them as `json` (coverage files of Istanbul), `lcov` or `text` (a table);
 /// - `check FOLDER --lines N --branches N --functions N` writes a line for each of these shares of that report that is below its
@@ -95,7 +97,7 @@ pub fn run_sure(
 }
 
 /// Writes the last line of a command that did not come to its end, or says why it isn't whole. That changes no answer.
-fn tell_end<E: Sink>(err: &mut E, ended: Ended) -> Result<(), Ended>
+pub fn tell_end<E: Sink>(err: &mut E, ended: Ended) -> Result<(), Ended>
     ensures whole { OnOk result (Gains
         (sink_at err.old (E.held err.old) (E.longest err.old) (E.faults err.old)) (sink_at err.new (E.held err.new) (E.longest err.new) (E.faults err.new))
         (last_line ended)) }
@@ -118,10 +120,12 @@ fn line_of(ended: Ended) -> &'static str
     ensures { result.now ≡ last_line ended }
 {
     match ended {
-        Ended::Done | Ended::Different | Ended::Below | Ended::SomeRefused => "",
-        Ended::Usage => "usage: merge same normal report check make collect serve attach run\n",
+        Ended::Done | Ended::Different | Ended::Below | Ended::SomeRefused | Ended::Child(_) => "",
+        Ended::Usage =>
+            "usage: merge same normal report check make collect serve attach run upgrade\n",
         Ended::ReadFault => "fault: read\n",
         Ended::WriteFault => "fault: write\n",
+        Ended::SpawnFault => "fault: child\n",
         Ended::NoMemory => "fault: memory\n",
     }
 }
@@ -162,6 +166,7 @@ fn look<S: Store>(alloc: Global, command: &Command, store: &mut S) -> Result<Due
         Command::Merge { folder } => merge(alloc, store, folder.as_text()),
         Command::Same { one, other } => same(alloc, store, one.as_text(), other.as_text()),
         Command::Normal { file } => normal(alloc, store, file.as_text()),
+        Command::Upgrade { file } => upgrade(alloc, store, file.as_text()),
         Command::Report { folder, form } => report(alloc, store, folder.as_text(), *form),
         Command::Check {
             folder,
