@@ -5,10 +5,13 @@
 //! - `== PATH` begins a file. The lines behind it are its text, up to the next line that begins `== `,
 //!   `! ` or `$`; the end of the last line is not part of it. The file's folder is there too, and
 //!   `== FOLDER/` is a folder alone. A file is there for all later runs of its case.
-//!   `== PATH in hex` is a file of the bytes whose hex digits follow, with a space between two.
+//!   `== PATH in hex` is a file of the bytes whose hex digits follow, with a space between two, and
+//!   `== PATH times N` is N files of this text, whose paths have the numbers from 0 for the `*`.
 //! - `! store N`, `! out N` and `! err N`, before a run: call N of that object, from 0, fails.
+//! - `! spawner N`: so does that of the spawner. `! program N`: the program that the run starts ends with this status, else with 0.
 //! - `$ WORDS` is a run. Words stand apart by one space; `''` is the empty word.
-//! - Below it, where something was written, stand `-- out` and `-- err`, each with what was, and then
+//! - Below it, where a program was run, stands `-- ran` with its words, one a line. Where something was
+//!   written, stand `-- out` and `-- err`, each with what was, and then
 //!   `= STATUS ANSWER, N calls`, with the number of calls of the store.
 //! - Notes begin with `#`. They and empty lines stand before a file, a `!` or a run.
 //!
@@ -29,7 +32,7 @@ fn main(rt: HostRuntime) -> io::Result<()> {
     for name in names_in(&rt, "cases")? {
         let path = format!(in alloc; "cases/{name}")?;
         let wanted = fs::read_to_string(&rt, path.as_str())?;
-        let given = played(alloc, wanted.as_str())?;
+        let given = played(&rt, alloc, wanted.as_str())?;
         if given.as_str() == wanted.as_str() {
             println!(rt; "{name}: as it stands")?;
         } else {

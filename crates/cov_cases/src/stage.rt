@@ -1,8 +1,10 @@
 //! A case as it is played: its files, the calls that are to fail, and what came so far.
-use cov_commands::run_tool;
-use cov_io::{Failing, MemFile, MemSink, MemStore, SureStore};
+use cov_commands::run;
+use cov_io::{Failing, MemFile, MemSink, MemSpawner, MemStore, NoGate, SureStore};
 use cov_text::{Items, Text};
 use std::alloc::{AllocError, Global};
+use std::sync::Wait;
+use std::thread::Threads;
 
 /// Where a line of a case stands.
 #[derive(Clone, Copy)]
@@ -20,6 +22,7 @@ enum Place {
 struct Stage {
     alloc: Global,
     store: MemStore,
+    spawner: MemSpawner,
     out: MemSink,
     err: MemSink,
     place: Place,
@@ -32,7 +35,11 @@ struct Stage {
 
 /// A case as it comes when it is played: its own lines, and behind each run what the run gave. A line that has no meaning where
 /// it stands is left out.
-pub(crate) fn played(alloc: Global, case: &str) -> Result<String, AllocError> {
+pub(crate) fn played<R: Threads + Wait + Sync>(
+    rt: &R,
+    alloc: Global,
+    case: &str,
+) -> Result<String, AllocError> {
     let mut stage = Stage {
         alloc,
         store: MemStore::new(
@@ -42,6 +49,7 @@ pub(crate) fn played(alloc: Global, case: &str) -> Result<String, AllocError> {
             },
             Items::new(alloc),
         ),
+        spawner: MemSpawner::new(alloc, 0, Items::new(alloc)),
         out: MemSink::new(alloc, Items::new(alloc)),
         err: MemSink::new(alloc, Items::new(alloc)),
         place: Place::Between,
@@ -50,7 +58,7 @@ pub(crate) fn played(alloc: Global, case: &str) -> Result<String, AllocError> {
         given: String::new(alloc),
     };
     for line in case.split_terminator('\n') {
-        stage.take(line)?;
+        stage.take(rt, line)?;
     }
     let Stage { given, .. } = stage;
     Ok(given)
@@ -58,7 +66,7 @@ pub(crate) fn played(alloc: Global, case: &str) -> Result<String, AllocError> {
 
 impl Stage {
     // Takes the next line of the case.
-    fn take(&mut self, line: &str) -> Result<(), AllocError> {
+    fn take<R: Threads + Wait + Sync>(&mut self, rt: &R, line: &str) -> Result<(), AllocError> {
         if let Some(path) = line.strip_prefix("== ") {
             self.end_text()?;
             self.put(line)?;
@@ -67,12 +75,12 @@ impl Stage {
         } else if let Some(call) = line.strip_prefix("! ") {
             self.end_text()?;
             self.put(line)?;
-            self.let_fail(call)?;
+            self.let_be(call)?;
             self.place = Place::Between;
         } else if let Some(words) = line.strip_prefix("$") {
             self.end_text()?;
             self.put(line)?;
-            self.run(words)?;
+            self.play(rt, words)?;
             self.place = Place::Wanted;
         } else {
             self.take_within(line)?;
@@ -100,19 +108,40 @@ impl Stage {
     fn end_text(&mut self) -> Result<(), AllocError> {
         if let Place::Text = self.place {
             self.text.pop();
-            let file = given_file(self.alloc, self.path.as_str(), self.text.as_str())?;
+            let path = self.path.clone()?;
+            match path.as_str().rsplit_once(" times ") {
+                Some((path, times)) => self.put_files(path, times)?,
+                None => self.put_file(path.as_str())?,
+            }
             self.text.clear();
-            add_file(self.alloc, &mut self.store.inner, file)?;
         }
         Ok(())
     }
 
-    // Lets a call of the next run fail.
-    fn let_fail(&mut self, call: &str) -> Result<(), AllocError> {
+    // Puts so many files of the text so far into the store, whose paths have their numbers for the star.
+    fn put_files(&mut self, path: &str, times: &str) -> Result<(), AllocError> {
+        for number in 0..times.parse::<u32>().unwrap_or(0) {
+            let number = format!(in self.alloc; "{number}")?;
+            let path = path.replace(self.alloc, "*", number.as_str())?;
+            self.put_file(path.as_str())?;
+        }
+        Ok(())
+    }
+
+    // Puts a file of the text so far into the store.
+    fn put_file(&mut self, path: &str) -> Result<(), AllocError> {
+        let file = given_file(self.alloc, path, self.text.as_str())?;
+        add_file(self.alloc, &mut self.store.inner, file)
+    }
+
+    // Lets a call of the next run fail, or its program end with a status.
+    fn let_be(&mut self, call: &str) -> Result<(), AllocError> {
         if let Some((object, number)) = call.split_once(' ')
             && let Ok(number) = number.parse::<u64>()
         {
             match object {
+                "program" => self.spawner.inner.status = (number % 256) as u8,
+                "spawner" => self.spawner.failing.numbers.push(number)?,
                 "store" => self.store.failing.numbers.push(number)?,
                 "out" => self.out.failing.numbers.push(number)?,
                 "err" => self.err.failing.numbers.push(number)?,
@@ -123,23 +152,39 @@ impl Stage {
     }
 
     // Runs the command of these words over the files so far, and lets no call of the next run fail.
-    fn run(&mut self, words: &str) -> Result<(), AllocError> {
+    fn play<R: Threads + Wait + Sync>(&mut self, rt: &R, words: &str) -> Result<(), AllocError> {
         let words = words_of(self.alloc, words)?;
-        let ended = run_tool(
+        let ended = run(
+            rt,
             self.alloc,
             words.as_slice(),
             &mut self.store,
+            &NoGate,
+            &mut self.spawner,
             &mut self.out,
             &mut self.err,
         );
+        self.put_ran()?;
         put_part(&mut self.given, "-- out", &self.out)?;
         put_part(&mut self.given, "-- err", &self.err)?;
         let (code, calls) = (ended.code(), self.store.failing.calls);
         let line = format!(in self.alloc; "= {code} {ended:?}, {calls} calls")?;
         self.put(line.as_str())?;
+        self.spawner = MemSpawner::new(self.alloc, 0, Items::new(self.alloc));
         self.store.failing = Failing::new(Items::new(self.alloc));
         self.out = MemSink::new(self.alloc, Items::new(self.alloc));
         self.err = MemSink::new(self.alloc, Items::new(self.alloc));
+        Ok(())
+    }
+
+    // Puts the words of the programs that were run, where any were.
+    fn put_ran(&mut self) -> Result<(), AllocError> {
+        for words in self.spawner.inner.ran.as_slice() {
+            put_line(&mut self.given, "-- ran")?;
+            for word in words.as_slice() {
+                put_line(&mut self.given, word.as_text())?;
+            }
+        }
         Ok(())
     }
 

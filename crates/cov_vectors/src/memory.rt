@@ -27,7 +27,7 @@ const MAPPED: &str =
 const TABLE: &str =
     "File       |  Lines | Branch |  Funcs | Uncovered\nAll files  |  50.00 |  50.00 | 100.00\n/app/in.ts |  50.00 |  50.00 | 100.00 | 3\n";
 
-fn store_of(alloc: Global, given: &[(&str, &str)]) -> Result<MemStore, AllocError> {
+pub(crate) fn store_of(alloc: Global, given: &[(&str, &str)]) -> Result<MemStore, AllocError> {
     let mut folders = Items::new(alloc);
     folders.push(Text::from_text(alloc, "cov")?)?;
     folders.push(Text::from_text(alloc, "maps")?)?;
