@@ -1,20 +1,20 @@
-"""Times `report --as lcov`.
+"""Times `report --as lcov` on made bundles at a size and at twice that size, and prints how the time grows.
 
-usage: python3 bench/report.py [LINES] [RANGES]
-       python3 bench/report.py --folder FOLDER
+usage: python3 bench/report.py [--only KIND] [--program PROGRAM]
+       python3 bench/report.py --folder FOLDER [--program PROGRAM]
 
-The first form makes one script with a map, one segment for each line of its source, and ranges that nest in each other,
-and takes it at once and at twice the size. The second takes a folder that NODE_V8_COVERAGE wrote, and runs `merge` on it
-as well. Run it by hand after `rt ci`, which leaves the program at crates/c8_command/out/c8_command. It prints times and
-ratios, and is no part of the gate.
+The first form makes folders of one script with a map over several sources: more sources of the same lines, more segments
+a line, more ranges, more texts with the same map. A ratio near 2 is linear growth, one near 1 that the size makes no
+difference. The second takes a folder that NODE_V8_COVERAGE wrote, and runs `merge` on it as well. Run it by hand after
+`rt ci`, which leaves the program at crates/c8_command/out/c8_command. It is no part of the gate.
 """
 
 import argparse
 import json
+import os
 import pathlib
 import subprocess
 import tempfile
-import time
 
 TOP = pathlib.Path(__file__).resolve().parent.parent
 PROGRAM = TOP / "crates" / "c8_command" / "out" / "c8_command"
@@ -24,63 +24,111 @@ PARSE = (
     "console.log(n)"
 )
 ROUNDS = 3
-LINE = "called();"
+CALL = "called();"
+DIGITS = "ABCDEFGHIJKLMNOPQRSTUVWXYZabcdefghijklmnopqrstuvwxyz0123456789+/"
+
+
+def vlq(number: int) -> str:
+    """A number of a mapping, base 64 VLQ."""
+    left = -2 * number + 1 if number < 0 else 2 * number
+    digits = ""
+    while True:
+        digits += DIGITS[left % 32 + (32 if left >= 32 else 0)]
+        left //= 32
+        if left == 0:
+            return digits
+
+
+def mappings(lines: int, sources: int, segments: int) -> str:
+    """Each generated line comes from one line of a source, call by call. The sources follow each other."""
+    share = lines // sources
+    written = []
+    before = (0, 0, 0)
+    for line in range(lines):
+        source = min(line // share, sources - 1)
+        fields = []
+        for k in range(segments):
+            now = (source, line - source * share, k * len(CALL))
+            step = 0 if k == 0 else len(CALL)
+            fields.append(vlq(step) + "".join(vlq(a - b) for a, b in zip(now, before)))
+            before = now
+        written.append(",".join(fields))
+    return ";".join(written)
+
+
+def bundle(lines: int, sources: int, segments: int, ranges: int) -> str:
+    """A text of one script, with a map over sources that have their content and ranges of a line each, side by side."""
+    width = segments * len(CALL)
+    total = lines * (width + 1) - 1
+    found = [{"startOffset": 0, "endOffset": total, "count": 1}]
+    for k in range(ranges):
+        first = (k * lines // ranges) * (width + 1)
+        found.append({"startOffset": first, "endOffset": first + width, "count": k % 7})
+    share = lines // sources
+    lengths = [share] * (sources - 1) + [lines - share * (sources - 1)]
+    data = {
+        "version": 3,
+        "sources": [f"/app/source{k}.ts" for k in range(sources)],
+        "sourcesContent": [(CALL * segments + "\n") * n for n in lengths],
+        "names": [],
+        "mappings": mappings(lines, sources, segments),
+    }
+    url = "file:///app/bundle.js"
+    function = {"functionName": "made", "isBlockCoverage": True, "ranges": found}
+    return json.dumps({
+        "result": [{"scriptId": "1", "url": url, "functions": [function]}],
+        "source-map-cache": {url: {"lineLengths": [width] * lines, "data": data}},
+    })
+
+
+# Each kind gives the texts of its folder at a size.
+KINDS = {
+    "sources": (200, lambda n: [bundle(20000, n, 1, 5000)]),
+    "segments": (50000, lambda n: [bundle(5000, 20, n // 5000, 1000)]),
+    "ranges": (10000, lambda n: [bundle(20000, 20, 1, n)]),
+    "lines, segments and ranges": (20000, lambda n: [bundle(n, n // 100, 1, n // 4)]),
+    "copies of a map": (10, lambda n: [bundle(5000, 20, 1, 1000)] * n),
+}
 
 
 def timed(words: list[str]) -> float:
-    """The least seconds of some rounds."""
-    seconds = []
+    """The least processor seconds of some rounds."""
+    best = None
     for _ in range(ROUNDS):
-        start = time.monotonic()
-        child = subprocess.run(words, stdout=subprocess.DEVNULL, stderr=subprocess.DEVNULL, check=False)
-        seconds.append(time.monotonic() - start)
-        if child.returncode not in (0, 3):
-            raise SystemExit(f"{words[0]} ended with {child.returncode}")
-    return min(seconds)
+        child = subprocess.Popen(words, stdout=subprocess.DEVNULL, stderr=subprocess.DEVNULL)
+        _, status, used = os.wait4(child.pid, 0)
+        seconds = used.ru_utime + used.ru_stime
+        if os.waitstatus_to_exitcode(status) not in (0, 3):
+            raise SystemExit(f"{words[0]} ended with {os.waitstatus_to_exitcode(status)}")
+        best = seconds if best is None else min(best, seconds)
+    return best
 
 
-def made(lines: int, ranges: int) -> dict:
-    """A script of so many lines, generated line by line from a source, with so many ranges in one function."""
-    width = len(LINE) + 1
-    total = lines * width - 1
-    step = max(1, lines // (2 * ranges))
-    found = [{"startOffset": 0, "endOffset": total, "count": 1}]
-    for k in range(1, ranges):
-        first = 2 * k * step
-        if (first + 1) * width > total:
-            break
-        found.append({"startOffset": first * width, "endOffset": first * width + len(LINE), "count": k % 7})
-    function = {"functionName": "made", "isBlockCoverage": True, "ranges": found}
-    url = "file:///app/made.js"
-    source_map = {
-        "version": 3,
-        "sources": ["made.ts"],
-        "sourcesContent": [(LINE + "\n") * lines],
-        "names": [],
-        "mappings": ";".join(["AAAA"] + ["AACA"] * (lines - 1)),
-    }
-    return {
-        "result": [{"scriptId": "1", "url": url, "functions": [function]}],
-        "source-map-cache": {url: {"lineLengths": [len(LINE)] * lines, "data": source_map}},
-    }
+def on_texts(program: pathlib.Path, texts: list[str]) -> tuple[float, float]:
+    """The times of `report` and of `merge` on a folder of these texts."""
+    with tempfile.TemporaryDirectory() as folder:
+        for k, text in enumerate(texts):
+            (pathlib.Path(folder) / f"{k:04}.json").write_text(text)
+        return timed([str(program), "report", folder, "--as", "lcov"]), timed([str(program), "merge", folder])
 
 
-def on_made(lines: int, ranges: int) -> None:
-    seconds = []
-    for times in (1, 2):
-        with tempfile.TemporaryDirectory() as folder:
-            snapshot = made(times * lines, times * ranges)
-            (pathlib.Path(folder) / "made.json").write_text(json.dumps(snapshot))
-            count = len(snapshot["result"][0]["functions"][0]["ranges"])
-            seconds.append(timed([str(PROGRAM), "report", folder, "--as", "lcov"]))
-        print(f"{times * lines} lines and segments, {count} ranges: {seconds[-1]:8.3f} s")
-    print(f"growth   {seconds[1] / seconds[0]:8.2f}")
+def on_made(program: pathlib.Path, only: str | None) -> None:
+    print("| Kind | N | time(N) | time(2N) | Ratio | `merge` at 2N | `report` to it |")
+    print("|---|---|---|---|---|---|---|")
+    for kind, (size, texts) in KINDS.items():
+        if only and kind != only:
+            continue
+        small, _ = on_texts(program, texts(size))
+        large, merge = on_texts(program, texts(2 * size))
+        ratio = large / max(small, 0.001)
+        beside = large / max(merge, 0.001)
+        print(f"| {kind} | {size} | {small:.3f} s | {large:.3f} s | {ratio:.2f} | {merge:.3f} s | {beside:.2f} |", flush=True)
 
 
-def on_folder(folder: pathlib.Path) -> None:
+def on_folder(program: pathlib.Path, folder: pathlib.Path) -> None:
     size = sum(file.stat().st_size for file in folder.iterdir())
-    merge = timed([str(PROGRAM), "merge", str(folder)])
-    report = timed([str(PROGRAM), "report", str(folder), "--as", "lcov"])
+    merge = timed([str(program), "merge", str(folder)])
+    report = timed([str(program), "report", str(folder), "--as", "lcov"])
     node = timed(["node", "-e", PARSE, str(folder)])
     print(f"{len(list(folder.iterdir()))} files, {size} bytes")
     print(f"merge    {merge:8.3f} s")
@@ -89,15 +137,15 @@ def on_folder(folder: pathlib.Path) -> None:
 
 
 def main() -> None:
-    words = argparse.ArgumentParser(description="Times report --as lcov.")
+    words = argparse.ArgumentParser(description="Times how report grows.")
     words.add_argument("--folder", type=pathlib.Path)
-    words.add_argument("lines", type=int, nargs="?", default=20000)
-    words.add_argument("ranges", type=int, nargs="?", default=5000)
+    words.add_argument("--only", choices=KINDS)
+    words.add_argument("--program", type=pathlib.Path, default=PROGRAM)
     given = words.parse_args()
     if given.folder:
-        on_folder(given.folder)
+        on_folder(given.program, given.folder)
     else:
-        on_made(given.lines, given.ranges)
+        on_made(given.program, given.only)
 
 
 if __name__ == "__main__":
