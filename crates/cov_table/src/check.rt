@@ -4,7 +4,8 @@ ghost use Rattle.cov_table.specs.Shares.{IsWithin, check_line};
 ghost use Rattle.cov_table.specs.Shares as shares;
 
 use crate::shares::{Summary, below, percent};
-use lcov_text::{Share, put, put_number};
+use clean_text::{put, put_number};
+use lcov_text::Share;
 use std::alloc::{AllocError, Global};
 
 /// Whether a share is below its threshold in percent.

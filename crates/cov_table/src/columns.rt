@@ -4,8 +4,8 @@ ghost use Rattle.cov_text.specs.Listing.{cleaned};
 ghost use Rattle.cov_table.specs.Table.{filled, right_in, barred, fields};
 ghost use Rattle.cov_table.specs.Table as table;
 
-use lcov_text::{put, put_cleaned};
-use std::alloc::AllocError;
+use clean_text::{put, put_cleaned};
+use std::alloc::{AllocError, Global};
 
 // How many places the fields of a row have.
 const FIELD_WIDTH: usize = 6;
@@ -24,10 +24,15 @@ fn character_count(text: &str) -> usize
 }
 
 /// A path or a name, filled with spaces on its right.
-pub fn put_name(text: &mut Vec<u8>, width: usize, name: &str) -> Result<(), AllocError>
+pub fn put_name(
+    alloc: Global,
+    text: &mut Vec<u8>,
+    width: usize,
+    name: &str,
+) -> Result<(), AllocError>
     ensures { OnOk result (text.new.items ≡ text.old.items ++ filled width (cleaned name.now)) }
 {
-    put_cleaned(text, name)?;
+    put_cleaned(alloc, text, name)?;
     put_spaces(text, width.saturating_sub(shown_width(name)))
 }
 

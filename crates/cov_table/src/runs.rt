@@ -3,7 +3,8 @@ ghost use Rattle.std.specs.Prelude.{◌≡◌, ℕ, List, ◌∷◌, ◌++◌, f
 ghost use Rattle.cov_table.specs.Adding.{runs_from, runs_behind};
 ghost use Rattle.cov_table.specs.Table.{runs, run_text, runs_field, uncovered};
 
-use lcov_text::{LineCount, put, put_number};
+use clean_text::{put, put_number};
+use lcov_text::LineCount;
 use std::alloc::{AllocError, Global};
 
 /// Consecutive lines, from the first to the last.

@@ -8,8 +8,9 @@ ghost use Rattle.cov_text.specs.Listing.{cleaned};
 use crate::columns::{put_fields, put_name, shown_width};
 use crate::runs::{put_runs, runs_of};
 use crate::shares::{Summary, percent};
+use clean_text::put;
 use istanbul_json::FileCoverage;
-use lcov_text::{LineCount, line_counts, put};
+use lcov_text::{LineCount, line_counts};
 use std::alloc::{AllocError, Global};
 
 // As wide is `All files`.
@@ -27,7 +28,7 @@ pub fn table_text(alloc: Global, files: &[FileCoverage]) -> Result<Vec<u8>, Allo
     let width = width_of(files);
     let rows = rows_of(alloc, files, width)?;
     let mut text = Vec::new(alloc);
-    put_head(&mut text, width)?;
+    put_head(alloc, &mut text, width)?;
     put_all(alloc, &mut text, width, &rows.summary)?;
     put(&mut text, &rows.text)?;
     Ok(text)
@@ -66,10 +67,10 @@ fn rows_of(alloc: Global, files: &[FileCoverage], width: usize) -> Result<Rows, 
     Ok(Rows { text, summary })
 }
 
-fn put_head(text: &mut Vec<u8>, width: usize) -> Result<(), AllocError>
+fn put_head(alloc: Global, text: &mut Vec<u8>, width: usize) -> Result<(), AllocError>
     ensures { OnOk result (text.new.items ≡ text.old.items ++ head_row width) }
 {
-    put_name(text, width, "File")?;
+    put_name(alloc, text, width, "File")?;
     put_fields(text, "Lines", "Branch", "Funcs")?;
     put(text, b" | Uncovered\n")
 }
@@ -83,7 +84,7 @@ fn put_all(
     requires { IsWithin summary.now }
     ensures { OnOk result (text.new.items ≡ text.old.items ++ all_row width summary.now) }
 {
-    put_name(text, width, "All files")?;
+    put_name(alloc, text, width, "All files")?;
     put_percents(alloc, text, summary)?;
     put(text, b"\n")
 }
@@ -99,7 +100,7 @@ fn put_row(
     requires { IsWithin summary.now }
     ensures { OnOk result (text.new.items ≡ text.old.items ++ row width (cleaned path.now) (percents summary.now) (runs_field (runs (uncovered lines.now)))) }
 {
-    put_name(text, width, path)?;
+    put_name(alloc, text, width, path)?;
     put_percents(alloc, text, summary)?;
     let uncovered = runs_of(alloc, lines)?;
     put_runs(text, &uncovered)?;

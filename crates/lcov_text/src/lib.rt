@@ -4,13 +4,11 @@
 ghost use Rattle.lcov_text.specs.Examples.{TraceOfTwoLines, NoFile, OddFile};
 
 mod counts;
-mod parts;
 #[cfg(test)]
 mod tests;
 mod trace;
 
 pub use counts::{LineCount, Share, branches_share, functions_share, line_counts, lines_share};
-pub use parts::{put, put_cleaned, put_number};
 pub use trace::lcov_of;
 
 /// What the definitions give on worked examples.

@@ -3,10 +3,8 @@ ghost use Rattle.std.specs.Prelude.{◌≡◌, [], ◌∷◌, ◌++◌, map, fla
 ghost use Rattle.std.specs.List.{enumerate_from};
 ghost use Rattle.lcov_text.specs.Lcov.{head_lines, function_line, function_lines, function_count, line_line, line_lines, location_line, location_lines, branch_lines, totals, record_lines, ended_lines, lcov};
 
-use crate::{
-    LineCount, Share, branches_share, functions_share, line_counts, lines_share, put, put_cleaned,
-    put_number,
-};
+use crate::{LineCount, Share, branches_share, functions_share, line_counts, lines_share};
+use clean_text::{put, put_cleaned, put_number};
 use istanbul_json::{Branch, FileCoverage, Function};
 use std::alloc::{AllocError, Global};
 
@@ -34,18 +32,18 @@ fn put_file(alloc: Global, text: &mut Vec<u8>, file: &FileCoverage) -> Result<()
     ensures { OnOk result (text.new.items ≡ text.old.items ++ ended_lines (record_lines file.now)) }
 {
     let lines = line_counts(alloc, file)?;
-    put_head(text, file.path())?;
-    put_functions(text, file.functions())?;
+    put_head(alloc, text, file.path())?;
+    put_functions(alloc, text, file.functions())?;
     put_lines(text, &lines)?;
     put_branches(text, file.branches())?;
     put(text, b"end_of_record\n")
 }
 
-fn put_head(text: &mut Vec<u8>, path: &str) -> Result<(), AllocError>
+fn put_head(alloc: Global, text: &mut Vec<u8>, path: &str) -> Result<(), AllocError>
     ensures { OnOk result (text.new.items ≡ text.old.items ++ ended_lines (head_lines path.now)) }
 {
     put(text, b"TN:\nSF:")?;
-    put_cleaned(text, path)?;
+    put_cleaned(alloc, text, path)?;
     put(text, b"\n")
 }
 
@@ -62,49 +60,69 @@ fn put_totals(text: &mut Vec<u8>, all: &[u8], hit: &[u8], share: Share) -> Resul
 }
 
 #[tactic(auto, using(crate::proofs::Lines::ended_append))]
-fn put_functions(text: &mut Vec<u8>, functions: &[Function]) -> Result<(), AllocError>
+fn put_functions(
+    alloc: Global,
+    text: &mut Vec<u8>,
+    functions: &[Function],
+) -> Result<(), AllocError>
     ensures { OnOk result (text.new.items ≡ text.old.items ++ ended_lines (function_lines functions.now)) }
 {
-    put_function_lines(text, functions)?;
+    put_function_lines(alloc, text, functions)?;
     put_totals(text, b"FNF:", b"FNH:", functions_share(functions))?;
-    put_function_counts(text, functions)
+    put_function_counts(alloc, text, functions)
 }
 
-fn put_function_lines(text: &mut Vec<u8>, functions: &[Function]) -> Result<(), AllocError>
+fn put_function_lines(
+    alloc: Global,
+    text: &mut Vec<u8>,
+    functions: &[Function],
+) -> Result<(), AllocError>
     ensures { OnOk result (text.new.items ≡ text.old.items ++ ended_lines (map function_line functions.now)) }
 {
     for function in functions {
-        put_function_line(text, function)?;
+        put_function_line(alloc, text, function)?;
     }
     Ok(())
 }
 
-fn put_function_line(text: &mut Vec<u8>, function: &Function) -> Result<(), AllocError>
+fn put_function_line(
+    alloc: Global,
+    text: &mut Vec<u8>,
+    function: &Function,
+) -> Result<(), AllocError>
     ensures { OnOk result (text.new.items ≡ text.old.items ++ (function_line function.now ++ 10 ∷ [])) }
 {
     put(text, b"FN:")?;
     put_number(text, u64::from(function.line.unwrap_or(0)))?;
     put(text, b",")?;
-    put_cleaned(text, function.name.as_text())?;
+    put_cleaned(alloc, text, function.name.as_text())?;
     put(text, b"\n")
 }
 
-fn put_function_counts(text: &mut Vec<u8>, functions: &[Function]) -> Result<(), AllocError>
+fn put_function_counts(
+    alloc: Global,
+    text: &mut Vec<u8>,
+    functions: &[Function],
+) -> Result<(), AllocError>
     ensures { OnOk result (text.new.items ≡ text.old.items ++ ended_lines (map function_count functions.now)) }
 {
     for function in functions {
-        put_function_count(text, function)?;
+        put_function_count(alloc, text, function)?;
     }
     Ok(())
 }
 
-fn put_function_count(text: &mut Vec<u8>, function: &Function) -> Result<(), AllocError>
+fn put_function_count(
+    alloc: Global,
+    text: &mut Vec<u8>,
+    function: &Function,
+) -> Result<(), AllocError>
     ensures { OnOk result (text.new.items ≡ text.old.items ++ (function_count function.now ++ 10 ∷ [])) }
 {
     put(text, b"FNDA:")?;
     put_number(text, function.count)?;
     put(text, b",")?;
-    put_cleaned(text, function.name.as_text())?;
+    put_cleaned(alloc, text, function.name.as_text())?;
     put(text, b"\n")
 }
 

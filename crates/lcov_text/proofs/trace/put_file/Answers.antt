@@ -19,4 +19,4 @@ returns c =
     (c.in_ok-put_functions.ensures ∙ ap (λ x. head ++ ended_lines (function_lines x)) c.functions.ensures.value)
     (c.in_ok-put_lines.ensures ∙ ap (λ x. functions ++ ended_lines (line_lines x)) (c.deref.ensures.value ∙ c.in_ok-lines.ensures))
     (c.in_ok-put_branches.ensures ∙ ap (λ x. lines ++ ended_lines (branch_lines x)) c.branches.ensures.value) in
-    on_ok_weaker c.put.result (λ e. e ∙ whole) c.put.ensures
+    on_ok_weaker c.put.result (λ e. e ∙ whole) c.put.ensures.put
