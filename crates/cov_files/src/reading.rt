@@ -1,19 +1,19 @@
 //! A snapshot, and what is said of its scripts' maps, from the bytes of a text.
-ghost use Rattle.std.specs.Prelude.{◌≡◌, Ok, map, IfOk, IfErr};
+ghost use Rattle.std.specs.Prelude.{◌≡◌, Ok, map, option_map, IfOk, IfErr};
 ghost use Rattle.serde_json.specs.View.{view};
 ghost use Rattle.cov_model.specs.Gives.{GivesText, TextFails};
 ghost use Rattle.cov_model.specs.Reading as spec;
 ghost use Rattle.source_maps.specs.Entries as entries;
 ghost use Rattle.cov_files.specs.Maps.{maps_reading};
 ghost use Rattle.cov_files.specs.Answers.{GivesValue, GivesEntries};
-ghost use Rattle.snapshot_reader.specs.Snapshots.{text_has_maps};
+ghost use Rattle.snapshot_reader.specs.Snapshots.{text_maps};
 
 use cov_messages::snapshot_of;
 use cov_model::{Items, ShapeFault, Snapshot, TextFault};
 use json_shapes::{ParseFault, parse};
 use serde_json::Value;
 use snapshot_reader::{ReadText, fast_reading, fast_text};
-use source_maps::{MapEntry, entries_of};
+use source_maps::{MapEntry, entries_of, entries_of_member};
 use std::alloc::Global;
 
 /// The snapshot that a text is, or its first fault. `TooLong` comes exactly past 134,217,728 bytes, `Syntax` exactly
@@ -36,7 +36,7 @@ pub fn maps_of(alloc: Global, bytes: &[u8]) -> Result<Items<MapEntry>, TextFault
     ensures { GivesEntries result (maps_reading bytes.now) }
 {
     let value = value_of(alloc, bytes)?;
-    entries_in(alloc, &value)
+    entries_in(alloc, value)
 }
 
 /// The snapshot that a text is, with what the text says of the maps of its scripts: what [`read_snapshot`] and
@@ -52,11 +52,11 @@ pub fn read_text(alloc: Global, bytes: &[u8]) -> Result<(Snapshot, Items<MapEntr
     }
     let value = value_of(alloc, bytes)?;
     let snapshot = snapshot_in(alloc, &value)?;
-    let entries = entries_in(alloc, &value)?;
+    let entries = entries_in(alloc, value)?;
     Ok((snapshot, entries))
 }
 
-// What was read of a text, with what the text says of maps. Only where it has a member of them is its value made.
+// What was read of a text, with the entries that its member with maps says.
 #[tactic(auto, unfolding(cov_model::specs::Reading::reading, crate::specs::Maps::maps_reading))]
 fn with_entries(
     alloc: Global,
@@ -64,18 +64,16 @@ fn with_entries(
     read: ReadText,
 ) -> Result<(Snapshot, Items<MapEntry>), TextFault>
     requires { (spec.reading bytes.now ≡ Ok read.snapshot)
-        × (read.has_maps ≡ text_has_maps bytes.now) }
+        × (option_map view read.maps ≡ text_maps bytes.now) }
     ensures snapshot { IfOk result (λ both. spec.reading bytes.now ≡ Ok both.0) }
     ensures maps { IfOk result (λ both. maps_reading bytes.now ≡ Ok (map entries.said both.1)) }
     ensures fails { IfErr result (λ fault. TextFails fault (spec.reading bytes.now)) }
 {
-    let ReadText { snapshot, has_maps } = read;
-    if !has_maps {
-        return Ok((snapshot, Items::new(alloc)));
+    let ReadText { snapshot, maps } = read;
+    match entries_of_member(alloc, maps) {
+        Ok(entries) => Ok((snapshot, entries)),
+        Err(_) => Err(TextFault::NoMemory),
     }
-    let value = value_of(alloc, bytes)?;
-    let entries = entries_in(alloc, &value)?;
-    Ok((snapshot, entries))
 }
 
 // The JSON value of a text that isn't too long.
@@ -102,8 +100,8 @@ fn snapshot_in(alloc: Global, value: &Value) -> Result<Snapshot, TextFault>
 }
 
 // What a value says of maps.
-fn entries_in(alloc: Global, value: &Value) -> Result<Items<MapEntry>, TextFault>
-    ensures { GivesEntries result (Ok (entries.entries_of (view value.now))) }
+fn entries_in(alloc: Global, value: Value) -> Result<Items<MapEntry>, TextFault>
+    ensures { GivesEntries result (Ok (entries.entries_of (view value))) }
 {
     match entries_of(alloc, value) {
         Ok(entries) => Ok(entries),

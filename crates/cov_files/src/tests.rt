@@ -186,6 +186,16 @@ fn check_maps(rt: &impl Abort, alloc: Global, text: &str, wanted: &str) -> Resul
     Ok(())
 }
 
+/// Checks what a text says of maps beside its snapshot.
+fn check_both(rt: &impl Abort, alloc: Global, text: &str, wanted: &str) -> Result<(), Fail> {
+    let Ok((_, entries)) = read_text(alloc, text.as_bytes()) else {
+        return Err(Fail::from("refused"));
+    };
+    let said = entries_text(alloc, entries.as_slice())?;
+    assert_eq!(rt; said.as_str(), wanted, "{text}");
+    Ok(())
+}
+
 #[test]
 fn texts_without_a_cache_have_no_entries(rt: HostRuntime) -> Result<(), Fail> {
     let alloc = rt.alloc();
@@ -235,10 +245,19 @@ fn members_of_a_cache_are_these_entries(rt: HostRuntime) -> Result<(), Fail> {
             "B=bad;a=5,;b=bad;",
         ),
     ] {
-        let text = format!(in alloc; "{{\"source-map-cache\":{{{cache}}}}}")?;
+        let text = format!(in alloc; "{{\"source-map-cache\":{{{cache}}},\"result\":[]}}")?;
         check_maps(&rt, alloc, text.as_str(), wanted)?;
+        check_both(&rt, alloc, text.as_str(), wanted)?;
     }
     Ok(())
+}
+
+#[test]
+fn the_last_of_equal_caches_counts(rt: HostRuntime) -> Result<(), Fail> {
+    let alloc = rt.alloc();
+    let text = "{\"source-map-cache\":{\"a\":3},\"result\":[],\"source-map-cache\":{\"b\":3}}";
+    check_maps(&rt, alloc, text, "b=bad;")?;
+    check_both(&rt, alloc, text, "b=bad;")
 }
 
 #[test]

@@ -3,3 +3,4 @@ pub mod Turns
 pub mod Lists
 pub mod Snapshots
 pub mod Whole
+pub mod Trees

@@ -1,6 +1,6 @@
 -- What was found of an object is what the reading of its data says.
 use Rattle.std.proofs.Common.{◌≡◌, ℕ, List, Some, None, subst}
-use Rattle.std.specs.Prelude.{Ok, codes}
+use Rattle.std.specs.Prelude.{Option, Ok, codes}
 use Rattle.json_shapes.specs.Shapes.{whole, offset_of}
 use Rattle.serde_json.specs.Data.{Members, object}
 use Rattle.serde_json.specs.Find.{as_str, as_bool, as_array}
@@ -13,7 +13,7 @@ use Rattle.snapshot_reader.specs.declared.range.FoundRange.{FoundRange}
 use Rattle.snapshot_reader.specs.declared.function.FoundFunction.{FoundFunction}
 use Rattle.snapshot_reader.specs.declared.script.FoundScript.{FoundScript}
 use Rattle.snapshot_reader.specs.Shape.{Is, Has, GivesList}
-use Rattle.snapshot_reader.specs.Snapshots.{GivesRange, GivesReport, GivesEntry, HoldsRange, HoldsFunction, HoldsScript}
+use Rattle.snapshot_reader.specs.Snapshots.{GivesRange, GivesReport, GivesEntry, HoldsRange, HoldsFunction, HoldsScript, HasScripts}
 use Rattle.snapshot_reader.proofs.Lists.{each_given, all_given, member_has}
 
 pub range_is : (ms : Members) (found : FoundRange) (r : Range) → HoldsRange found ms → (found.start ≡ Some r.start) × (found.end ≡ Some r.end) × (found.count ≡ Some r.count) → GivesRange r (object ms)
@@ -54,3 +54,11 @@ snapshot_is ms es h = (
   rw (member_has as_array _ _ (codes "result") ms h.0 h.2.0 h.1 h.2.1) (each_given entry_of GivesEntry (λ x e g. g.0) es h.2.0 h.2.2 0),
   all_given (λ e. AreReportsNested e.functions) GivesEntry (λ x d g. g.1) es h.2.0 h.2.2,
 )
+
+-- scripts that were found nest
+pub scripts_nest : (ms : Members) (found : Option (List Entry)) → Has (GivesList GivesEntry) (codes "result") ms found → HasScripts found
+scripts_nest ms None h = tt
+scripts_nest ms (Some es) h = (snapshot_is ms es h).1
+
+pub scripts_are : (ms : Members) (found : Option (List Entry)) (es : List Entry) → Has (GivesList GivesEntry) (codes "result") ms found → found ≡ Some es → snapshot_of (object ms) ≡ Ok es
+scripts_are ms found es h is = (snapshot_is ms es (subst (Has (GivesList GivesEntry) (codes "result") ms) is h)).0

@@ -1,20 +1,20 @@
 -- What the parts of a snapshot are read of.
-use Rattle.std.specs.Prelude.{◌≡◌, ℕ, Bool, List, None, is_some, option_and_then, Ok, codes}
-use Rattle.json.specs.Token.{Token}
+use Rattle.std.specs.Prelude.{◌≡◌, ℕ, List, Option, None, option_map, option_and_then, Ok, IfSome, codes}
 use Rattle.json_shapes.specs.Shapes.{parsed, whole, offset_of}
 use Rattle.serde_json.specs.Data.{Data, Members}
 use Rattle.serde_json.specs.Find.{as_str, as_bool, get, get_member}
+use Rattle.serde_json.specs.View.{view}
 use Rattle.cov_model.specs.declared.report.Range.{Range}
 use Rattle.cov_model.specs.declared.report.FunctionReport.{FunctionReport}
 use Rattle.cov_model.specs.declared.snapshot.Entry.{Entry}
 use Rattle.cov_model.specs.Nesting.{range_fault, AreReportsNested, AreNested}
-use Rattle.cov_model.specs.Reading.{range_of, report_of, entry_of, snapshot_of}
-use Rattle.snapshot_reader.specs.Reads.{Begins}
+use Rattle.cov_model.specs.Reading.{range_of, report_of, entry_of}
 use Rattle.snapshot_reader.specs.Shape.{Is, GivesList, Has}
 use Rattle.snapshot_reader.specs.declared.range.FoundRange.{FoundRange}
 use Rattle.snapshot_reader.specs.declared.function.FoundFunction.{FoundFunction}
 use Rattle.snapshot_reader.specs.declared.script.FoundScript.{FoundScript}
 use Rattle.snapshot_reader.specs.declared.text.FoundTop.{FoundTop}
+use Rattle.snapshot_reader.specs.declared.text.FoundText.{FoundText}
 
 -- ---- an item, wherever it stands
 
@@ -46,22 +46,24 @@ HoldsScript found ms =
     Has (Is as_str) (codes "url") ms found.url
     × Has (GivesList GivesReport) (codes "functions") ms found.functions
 
--- whether a member with maps is there
-abbrev pub has_maps : Data → Bool
-has_maps d = is_some (get (codes "source-map-cache") d)
+-- the member with maps, where it is there
+abbrev pub maps_in : Data → Option Data
+maps_in d = get (codes "source-map-cache") d
 
 abbrev pub HoldsTop : FoundTop → Members → Type 0
-HoldsTop found ms =
-    Has (GivesList GivesEntry) (codes "result") ms found.scripts
-    × (found.has_maps ≡ is_some (get_member (codes "source-map-cache") ms))
+HoldsTop found ms = Has (GivesList GivesEntry) (codes "result") ms found.scripts
+
+abbrev pub HoldsText : FoundText → Members → Type 0
+HoldsText found ms =
+    HoldsTop found.top ms
+    × (option_map view found.maps ≡ get_member (codes "source-map-cache") ms)
 
 -- ---- a whole text
 
--- an object that is the snapshot of these scripts, and whether it has maps
-abbrev pub BeginsSnapshot : List Token → List Entry → Bool → List Token → Type 0
-BeginsSnapshot old es maps new =
-    (d : Data) × Begins 127 old d new × (snapshot_of d ≡ Ok es) × AreNested es × (maps ≡ has_maps d)
+-- the scripts that were found nest
+abbrev pub HasScripts : Option (List Entry) → Type 0
+HasScripts found = IfSome found AreNested
 
--- whether the object of a text has a member with maps
-abbrev pub text_has_maps : List ℕ → Bool
-text_has_maps bytes = is_some (option_and_then (get (codes "source-map-cache")) (parsed bytes))
+-- what the text with these bytes says of maps, as its object's member
+abbrev pub text_maps : List ℕ → Option Data
+text_maps bytes = option_and_then maps_in (parsed bytes)

@@ -1,4 +1,5 @@
-//! A snapshot that is read straight from the tokens of a text, with no JSON tree between.
+//! A snapshot that is read straight from the tokens of a text, with no JSON tree between but that of its maps, where
+//! these are wanted.
 //!
 //! What is answered is what `serde_json`'s value of the text gives: lists and objects nested no deeper than 127, numbers
 //! judged wherever they stand, members in any order, and of members with one key the last. A text for which that isn't
@@ -16,6 +17,7 @@ mod shape;
 #[cfg(test)]
 mod tests;
 mod text;
+mod tree;
 
 pub use bytes::{fast_reading, fast_text};
 pub use text::ReadText;

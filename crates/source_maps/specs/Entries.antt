@@ -32,18 +32,21 @@ abbrev pub given_member : List ℕ → Data → Option Data
 given_member key d = unwrap_or (if_given Some (get key d)) None
 
 -- the map and the lengths, where these are a list of numbers of 32 bits
-abbrev pub body_of : Data → Data → Option GivenMap
-body_of value lengths = option_map (λ ns. record { value = value; lengths = ns }) (listed offset_of lengths)
+abbrev pub body_with : Data → Option (List ℕ) → Option GivenMap
+body_with value lengths = option_map (λ ns. record { value = value; lengths = ns }) lengths
 
--- what the members `data` and `lineLengths` say of a url: nothing where one isn't given
+abbrev pub body_of : Data → Data → Option GivenMap
+body_of value lengths = body_with value (listed offset_of lengths)
+
+-- what the members `lineLengths` and `data` say of a url: nothing where one isn't given
 abbrev pub said_of : List ℕ → Option Data → Option Data → Option Said
-said_of url None lengths = None
-said_of url (Some value) None = None
-said_of url (Some value) (Some lengths) = Some (record { url = url; body = body_of value lengths })
+said_of url None value = None
+said_of url (Some lengths) None = None
+said_of url (Some lengths) (Some value) = Some (record { url = url; body = body_of value lengths })
 
 -- what a value says of its url
 abbrev pub entry_of : List ℕ → Data → Option Said
-entry_of url (object ms) = said_of url (given_member (codes "data") (object ms)) (given_member (codes "lineLengths") (object ms))
+entry_of url (object ms) = said_of url (given_member (codes "lineLengths") (object ms)) (given_member (codes "data") (object ms))
 entry_of url null = Some (record { url = url; body = None })
 entry_of url (boolean b) = Some (record { url = url; body = None })
 entry_of url (number n) = Some (record { url = url; body = None })
@@ -55,6 +58,10 @@ abbrev pub entries_in : Members → List Said
 entries_in no_members = []
 entries_in (member url d ms) = option_to_list (entry_of url d) ++ entries_in ms
 
--- what a text's value says; nothing where it isn't an object with such a member that is an object
+-- what the member with maps says; nothing where it isn't there, or no object
+abbrev pub entries_said : Option Data → List Said
+entries_said found = unwrap_or (option_map entries_in (option_and_then as_object found)) []
+
+-- what a text's value says, in that member of its object
 abbrev pub entries_of : Data → List Said
-entries_of d = unwrap_or (option_map entries_in (option_and_then as_object (get (codes "source-map-cache") d))) []
+entries_of d = entries_said (get (codes "source-map-cache") d)

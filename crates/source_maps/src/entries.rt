@@ -1,5 +1,6 @@
 //! What a coverage text says of the maps of its scripts.
-ghost use Rattle.std.specs.Prelude.{◌≡◌, map, option_map, IfOk};
+ghost use Rattle.std.specs.Prelude.{◌≡◌, map, option_map, string_bytes, IfOk};
+ghost use Rattle.serde_json.specs.Find.{get, as_object};
 ghost use Rattle.serde_json.specs.View.{view, items_view, members_view};
 ghost use Rattle.json_shapes.specs.Shapes.{offset_of};
 ghost use Rattle.json_shapes.specs.Members.{each_of, listed};
@@ -30,23 +31,57 @@ pub struct MapEntry {
 /// the value isn't an object with such a member that is an object.
 ///
 /// An entry is left out where it is an object whose `data` or `lineLengths` is absent or null. It is `Bad` where it is no
-/// object, or where `lineLengths` isn't a list of numbers from 0 to 4,294,967,295. The only error is want of memory.
-pub fn entries_of(alloc: Global, value: &Value) -> Result<Items<MapEntry>, AllocError>
-    ensures { IfOk result (λ entries. map spec.said entries ≡ spec.entries_of (view value.now)) }
+/// object, or where `lineLengths` isn't a list of numbers from 0 to 4,294,967,295. The maps are moved out of the value. The
+/// only error is want of memory.
+pub fn entries_of(alloc: Global, value: Value) -> Result<Items<MapEntry>, AllocError>
+    ensures { IfOk result (λ entries. map spec.said entries ≡ spec.entries_of (view value)) }
 {
-    match value.get("source-map-cache").and_then(Value::as_object) {
+    entries_of_member(alloc, take_member(value, "source-map-cache"))
+}
+
+/// The same, of the member alone, where there is one.
+pub fn entries_of_member(
+    alloc: Global,
+    member: Option<Value>,
+) -> Result<Items<MapEntry>, AllocError>
+    ensures { IfOk result (λ entries. map spec.said entries ≡ spec.entries_said (option_map view member)) }
+{
+    let Some(member) = member else {
+        return Ok(Items::new(alloc));
+    };
+    match members_of(member) {
         Some(members) => entries_in(alloc, members),
         None => Ok(Items::new(alloc)),
     }
 }
 
+// The members of an object.
+fn members_of(value: Value) -> Option<Map<String, Value>>
+    ensures { option_map (λ m. members_view m.entries) result ≡ as_object (view value) }
+{
+    match value {
+        Value::Object(members) => Some(members),
+        _ => None,
+    }
+}
+
+// The member of this name, out of a value.
+fn take_member(value: Value, key: &str) -> Option<Value>
+    ensures { option_map view result ≡ get key.now (view value) }
+{
+    match value {
+        Value::Object(mut members) => members.remove(key),
+        _ => None,
+    }
+}
+
 // The entries that members say.
-fn entries_in(alloc: Global, members: &Map<String, Value>) -> Result<Items<MapEntry>, AllocError>
-    ensures { IfOk result (λ entries. map spec.said entries ≡ spec.entries_in (members_view members.now.entries)) }
+fn entries_in(alloc: Global, members: Map<String, Value>) -> Result<Items<MapEntry>, AllocError>
+    ensures { IfOk result (λ entries. map spec.said entries ≡ spec.entries_in (members_view members.entries)) }
 {
     let mut entries = Items::new(alloc);
     for (url, value) in members {
-        if let Some(entry) = entry_of(alloc, url.as_str(), value)? {
+        if let Some(entry) = entry_of(alloc, url, value)? {
             entries.push(entry)?;
         }
     }
@@ -54,22 +89,23 @@ fn entries_in(alloc: Global, members: &Map<String, Value>) -> Result<Items<MapEn
 }
 
 // What a value says of its url.
-fn entry_of(alloc: Global, url: &str, value: &Value) -> Result<Option<MapEntry>, AllocError>
-    ensures { IfOk result (λ entry. option_map spec.said entry ≡ spec.entry_of url.now (view value.now)) }
+fn entry_of(alloc: Global, url: String, value: Value) -> Result<Option<MapEntry>, AllocError>
+    ensures { IfOk result (λ entry. option_map spec.said entry ≡ spec.entry_of (string_bytes url) (view value)) }
 {
     if !value.is_object() {
-        let url = Text::from_text(alloc, url)?;
+        let url = Text::from_string(url);
         let body = EntryBody::Bad;
         return Ok(Some(MapEntry { url, body }));
     }
-    let Some(content) = given_member(value, "data") else {
+    let Some(lengths) = given_member(&value, "lineLengths") else {
         return Ok(None);
     };
-    let Some(lengths) = given_member(value, "lineLengths") else {
+    let lengths = lengths_of(alloc, lengths)?;
+    let Some(content) = take_given_member(value, "data") else {
         return Ok(None);
     };
-    let url = Text::from_text(alloc, url)?;
-    let body = body_of(alloc, content, lengths)?;
+    let url = Text::from_string(url);
+    let body = body_of(content, lengths);
     Ok(Some(MapEntry { url, body }))
 }
 
@@ -83,16 +119,23 @@ fn given_member<'a>(value: &'a Value, key: &str) -> Option<&'a Value>
     }
 }
 
-// A map with the lengths of its generated lines.
-fn body_of(alloc: Global, content: &Value, lengths: &Value) -> Result<EntryBody, AllocError>
-    ensures { IfOk result (λ body. spec.said_body body ≡ spec.body_of (view content.now) (view lengths.now)) }
+// The same, out of a value.
+fn take_given_member(value: Value, key: &str) -> Option<Value>
+    ensures { option_map view result ≡ spec.given_member key.now (view value) }
 {
-    match lengths_of(alloc, lengths)? {
-        Some(lengths) => {
-            let map = content.clone()?;
-            Ok(EntryBody::Given { map, lengths })
-        }
-        None => Ok(EntryBody::Bad),
+    match take_member(value, key) {
+        Some(found) if !found.is_null() => Some(found),
+        _ => None,
+    }
+}
+
+// A map with the lengths of its generated lines.
+fn body_of(map: Value, lengths: Option<Items<u32>>) -> EntryBody
+    ensures { spec.said_body result ≡ spec.body_with (view map) lengths }
+{
+    match lengths {
+        Some(lengths) => EntryBody::Given { map, lengths },
+        None => EntryBody::Bad,
     }
 }
 

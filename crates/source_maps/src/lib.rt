@@ -16,7 +16,7 @@ mod start;
 mod tests;
 mod version;
 
-pub use entries::{EntryBody, MapEntry, entries_of};
+pub use entries::{EntryBody, MapEntry, entries_of, entries_of_member};
 pub use fault::{MapFault, MapField};
 pub use map::{MapParts, MapSegment, SourceMap};
 pub use reader::map_of;

@@ -12,14 +12,14 @@ returns-in-Ok-clause-snapshot c =
     let bytes = c.args.bytes.now in
     let utf8 = is_utf8-from_IsUtf8 bytes c.in-Ok.ensures.cases.1 in
     let short : nat_lt max_text (length bytes) ≡ false = grind arith in
-    if_some_weaker c.read_str.result (λ r h.
+    if_some_weaker c.read_with_maps.result (λ r h.
     let there = subst (λ t. read t ≡ Some h.0) c.in-Ok.ensures.cases.0 h.1 in
-    reading_is bytes h.0 r.snapshot short utf8 there h.2) c.read_str.ensures
+    reading_is bytes h.0 r.snapshot short utf8 there h.2) c.read_with_maps.ensures
 
 pub returns-in-Ok-clause-maps : goal.returns-in-Ok-clause-maps
 returns-in-Ok-clause-maps c =
     let bytes = c.args.bytes.now in
     let utf8 = is_utf8-from_IsUtf8 bytes c.in-Ok.ensures.cases.1 in
-    if_some_weaker c.read_str.result (λ r h.
+    if_some_weaker c.read_with_maps.result (λ r h.
     let there = subst (λ t. read t ≡ Some h.0) c.in-Ok.ensures.cases.0 h.1 in
-    h.3 ∙ sym (maps_are bytes h.0 utf8 there)) c.read_str.ensures
+    h.3 ∙ sym (maps_are bytes h.0 utf8 there)) c.read_with_maps.ensures

@@ -1,4 +1,4 @@
-use Rattle.std.proofs.Common.{◌≡◌, ◌-◌, arith, slice_index_or, None, refl}
+use Rattle.std.proofs.Common.{◌-◌, arith, slice_index_or, None, refl}
 use Rattle.std.specs.Prelude.{Some}
 use Rattle.source_maps.specs.declared.map.MapSegment.{MapSegment}
 use Rattle.source_maps.proofs.Searched.{found-none, found-earlier, found-here, of_map, sorted_of}
