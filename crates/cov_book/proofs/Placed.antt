@@ -1,7 +1,6 @@
 -- Functions put in their places.
-use Rattle.std.proofs.Common.{map, ◌≡◌, ℕ, ◌<◌, ◌≤◌, length, ◌++◌, arith, Bool, true, false, List, [], ◌∷◌, refl, sym, ap, ◌∙◌, subst}
-use Rattle.std.specs.Prelude.{Option, None, Some, option_map, slice_get, cond, is_some, Result, Ok, Err, OnOk, OnErr, is_ok, IsOk}
-use Rattle.std.specs.Option.{option_or}
+use Rattle.std.proofs.Common.{map, ◌≡◌, ℕ, length, ◌++◌, arith, Bool, true, false, List, [], ◌∷◌, refl, sym, ap, ◌∙◌, subst}
+use Rattle.std.specs.Prelude.{Option, None, Some, option_map, slice_get, cond, is_some, Result, Ok, Err, is_ok, IsOk}
 use Rattle.std.specs.List.{AllByRecursion}
 use Rattle.std.specs.List.Sorted.{IsStrictlySortedBy}
 use Rattle.std.specs.declared.cmp.Ordering.TheVariants.{Less}
@@ -31,7 +30,7 @@ use Rattle.cov_book.specs.Told.{named}
 use Rattle.cov_book.specs.Prepared.{sums_now}
 use Rattle.cov_book.proofs.Aligned.{aligned-report}
 use Rattle.cov_book.proofs.Ordered.{at-equal, file_total, file_exact}
-use Rattle.cov_book.proofs.Preparing.{at-flip, sorted-put, found-put}
+use Rattle.cov_book.proofs.Preparing.{sorted-put, found-put}
 use Rattle.cov_book.proofs.Searched.{insert-own, order-own}
 use Rattle.cov_book.proofs.Stretched.{rooted-lookup}
 
@@ -73,7 +72,7 @@ rooted-known all functions changed least url f k so_far is =
 
 -- ---- maps with the same look-ups
 
-none-above : (k : Key) (es : List (Key × Sums)) → AllByRecursion (λ y. file_order k y ≡ Less) (keys_of es) → lookup (is_at (file_order k)) es ≡ None
+pub none-above : (k : Key) (es : List (Key × Sums)) → AllByRecursion (λ y. file_order k y ≡ Less) (keys_of es) → lookup (is_at (file_order k)) es ≡ None
 none-above k [] h = refl
 none-above k (e ∷ es) h = ap (λ o. cond (is_eq o) (Some e.1) (lookup (is_at (file_order k)) es)) h.0 ∙ none-above k es h.1
 
@@ -142,41 +141,13 @@ least-prepared known entries functions changed least s none so_far =
     subst (λ es. ArePrepared es functions changed)
     (sym (same-entries (with_entries known entries) so_far.known (sorted-entries known entries s) so_far.prepared.kept.sorted (λ q. so_far.same q (ap (comes_before q) none)))) so_far.prepared
 
--- ---- one function more put in
+-- ---- functions behind another one
 
-one-more : (first : Option Sums) (rest all : Option Sums) (v : Sums) (a b : Bool) → a ≡ b → (a ≡ true → rest ≡ None) → option_or (cond a (Some v) rest) all ≡ option_or rest (cond b (Some v) all)
-one-more first rest all v true true e none = sym (ap (λ o. option_or o (Some v)) (none refl))
-one-more first rest all v true false e none = let never : true ≡ false = e in absurd cc
-one-more first rest all v false true e none = let never : false ≡ true = e in absurd cc
-one-more first rest all v false false e none = refl
-
-own-sorted : (url : List ℕ) (f : Function) (fs : List Function) → AllByRecursion (λ k. file_order (bare_key f) k ≡ Less) (keys_of (bare fs)) → AllByRecursion (λ k. file_order (own url f).0 k ≡ Less) (keys_of (own_list url fs))
+pub own-sorted : (url : List ℕ) (f : Function) (fs : List Function) → AllByRecursion (λ k. file_order (bare_key f) k ≡ Less) (keys_of (bare fs)) → AllByRecursion (λ k. file_order (own url f).0 k ≡ Less) (keys_of (own_list url fs))
 own-sorted url f [] h = tt
 own-sorted url f (g ∷ gs) h = (order-own url f.start f.end f.name g ∙ h.0, own-sorted url f gs h.1)
 
-pub put-next : (url : List ℕ) (f : Function) (rest old new : List Function) → AreInOrder (f ∷ rest) → bare new ≡ insert_entry file_order (bare old) (bare_key f) f.sums
-    → (q : Key) → option_or (lookup (is_at (file_order q)) (own_list url rest)) (lookup (is_at (file_order q)) (own_list url new))
-    ≡ option_or (lookup (is_at (file_order q)) (own_list url (f ∷ rest))) (lookup (is_at (file_order q)) (own_list url old))
-unfolding IsStrictlySortedBy
-put-next url f rest old new sorts put q =
-    let found = put-found url f (own url f).0 f.sums old new put refl refl q in
-    let left = lookup (is_at (file_order q)) (own_list url rest) in
-    let all = lookup (is_at (file_order q)) (own_list url old) in
-    ap (option_or left) found
-    ∙ sym (one-more left left all f.sums (is_at (file_order q) (own url f).0) (is_at (file_order (own url f).0) q) (at-flip q (own url f).0)
-    (λ here.
-    let same : q ≡ (own url f).0 = file_exact q (own url f).0 (at-equal (file_order q (own url f).0) here) in
-    ap (λ k. lookup (is_at (file_order k)) (own_list url rest)) same ∙ none-above (own url f).0 (own_list url rest) (own-sorted url f rest sorts.0)))
-
-pub rest-in-order : (f : Function) (rest : List Function) → AreInOrder (f ∷ rest) → AreInOrder rest
-unfolding IsStrictlySortedBy
-rest-in-order f rest s = s.1
-
 -- ---- calls that can't fail for want of room
-
-pub sure : {A E : Type 0} (r : Result A E) (P : Type 0) (cap len : ℕ) → OnErr r (cap ≤ len) → len < cap → OnOk r P → P
-sure (Ok x) P cap len full room h = h
-sure (Err e) P cap len full room h = absurd (omega (arith, full, room))
 
 pub took : {A E X : Type 0} (r : Result A E) (x a b : X) → IsOk r → x ≡ cond (is_ok r) a b → x ≡ a
 took (Ok y) x a b ok e = e

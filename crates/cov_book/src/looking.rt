@@ -110,7 +110,7 @@ pub fn is_function(function: &Function, start: u32, end: u32, name: &str) -> boo
 }
 
 /// How a function stands to this root and name.
-fn order_of(function: &Function, start: u32, end: u32, name: &str) -> Ordering
+pub fn order_of(function: &Function, start: u32, end: u32, name: &str) -> Ordering
     ensures { result ≡ file_order (bare_key function.now) (named [] start end name.now) }
 {
     match function.start.cmp(&start) {

@@ -1,5 +1,5 @@
 //! Changes put in place, where all memory is taken before.
-ghost use Rattle.std.specs.Prelude.{◌≡◌, ◌+◌, ◌<◌, ◌≤◌, [], List, ℕ, false, map, length, IfOk, OnOk, OnErr};
+ghost use Rattle.std.specs.Prelude.{◌≡◌, ◌+◌, ◌<◌, ◌≤◌, [], List, ℕ, false, map, length, None, IfOk, IfSome, OnOk, OnErr};
 ghost use Rattle.std.specs.Option.{option_or};
 ghost use Rattle.std.specs.List.{AllByRecursion};
 ghost use Rattle.std.specs.Map.{lookup};
@@ -11,10 +11,12 @@ ghost use Rattle.cov_model.specs.declared.sums.Key.{Key};
 ghost use Rattle.cov_model.specs.Sums.{file_order};
 ghost use Rattle.cov_book.specs.Listed.{held_in, listed, of_url, own_list, urls_in, AreInOrder, AreSorted};
 ghost use Rattle.cov_book.specs.Room.{HasRoom};
+ghost use Rattle.cov_book.specs.Joining.{by_lasts, last_of, IsTaken};
 
-use crate::looking::{functions_of, place_of_url};
-use crate::scripts::{Function, Script, is_script_at, put_function, set_functions, take_functions};
+use crate::looking::{functions_of, order_of, place_of_url};
+use crate::scripts::{Function, Script, is_script_at, set_functions, take_functions};
 use std::alloc::{AllocError, Global};
+use std::cmp::Ordering;
 
 /// A script to put in place, and room for the functions that it then has.
 #[derive(Drop)]
@@ -103,7 +105,8 @@ fn put_script(alloc: Global, scripts: &mut Vec<Script>, update: Update)
     }
 }
 
-/// Functions with others put in. It takes no memory.
+/// Functions with others put in, each in the place of the one of the same root and name, if there
+/// is one. It takes no memory: both lists are walked once, from their ends.
 fn joined(room: Vec<Function>, held: Vec<Function>, new: Vec<Function>) -> Vec<Function>
     requires empty { room.items ≡ [] }
     requires len { vec_len room ≡ 0 }
@@ -116,10 +119,41 @@ fn joined(room: Vec<Function>, held: Vec<Function>, new: Vec<Function>) -> Vec<F
         (is_at (file_order key)) (own_list url held.items)) }
 {
     let mut all = room;
-    let mut held = held;
-    let _ = all.append(&mut held);
-    for function in new {
-        let _ = put_function(&mut all, function);
+    let mut old = held;
+    let mut fresh = new;
+    'left: while let Some(function) = take_last(&mut old, &mut fresh) {
+        let _ = all.push(function);
     }
+    all.reverse();
     all
+}
+
+/// Takes the function away that comes last of two lists. One that ends both goes from both, and is
+/// that of the second.
+fn take_last(held: &mut Vec<Function>, new: &mut Vec<Function>) -> Option<Function>
+    ensures taken { IfSome result (λ f. IsTaken held.old.items new.old.items f held.new.items
+        new.new.items) }
+    ensures none { result ≡ None → (held.old.items ≡ []) × (new.old.items ≡ []) }
+{
+    match order_of_lasts(held, new) {
+        Ordering::Less => new.pop(),
+        Ordering::Equal => {
+            let _ = held.pop();
+            new.pop()
+        }
+        Ordering::Greater => held.pop(),
+    }
+}
+
+/// How the last of two lists stand to each other: a list without one comes first.
+fn order_of_lasts(held: &[Function], new: &[Function]) -> Ordering
+    ensures { result ≡ by_lasts (last_of held.now) (last_of new.now) }
+{
+    let Some(one) = held.last() else {
+        return Ordering::Less;
+    };
+    let Some(other) = new.last() else {
+        return Ordering::Greater;
+    };
+    order_of(one, other.start, other.end, other.name.as_text())
 }
