@@ -77,10 +77,16 @@ fn lines_of_next(n: u32) -> u64
     u64::from(n) + 1
 }
 
-// N of the next comment that begins here, 1 where it isn't written.
+// N of the next comment that begins here, 1 where it isn't written. Most places have another byte than its first.
 fn next_here(bytes: &[u8]) -> Option<u32>
     ensures { result ≡ comments.next_here bytes.now }
 {
+    let Some(first) = bytes.first() else {
+        return None;
+    };
+    if *first != b'/' {
+        return None;
+    }
     if bytes.starts_with(b"/* c8 ignore next */") {
         return Some(1);
     }
