@@ -1,13 +1,11 @@
 //! Asking for a script without a map, and for each source of a script with one.
-ghost use Rattle.std.specs.Prelude.{◌≡◌, ℕ, List, [], ◌∷◌, ◌++◌, Some, slice_get, option_and_then, IfOk, IfErr, OnOk, is_some, true};
-ghost use Rattle.cov_io.specs.Causes.{Rose};
+ghost use Rattle.std.specs.Prelude.{◌≡◌, ℕ, List, [], ◌∷◌, ◌++◌, Some, slice_get, option_and_then, IfOk, OnOk, is_some, true};
 ghost use Rattle.cov_io.specs.Told.{WhereTold};
 ghost use Rattle.source_maps.specs.Entries.{said_body};
 ghost use Rattle.cov_report.specs.Wanted as wanted;
 ghost use Rattle.cov_report.specs.Wanted.{Asked};
 ghost use Rattle.cov_report.specs.Gathering.{Gathers};
-ghost use Rattle.cov_report.specs.Counting.{HasCounted, OnlyReads};
-ghost use Rattle.cov_report.specs.declared.answer.ReportFault.TheVariants.{Failed};
+ghost use Rattle.cov_report.specs.Counting.{ReadsFiles, store_at};
 
 use crate::gathering::Gathered;
 use crate::maps::{GoodMap, good_map};
@@ -30,9 +28,9 @@ pub fn ask_script<S: Store>(
 ) -> Result<(), ReportFault>
     ensures gathers { OnOk result (WhereTold (S.files store.old) (λ told. (earlier : List Asked)
         → Gathers told earlier gathered.old → Gathers told (earlier ++ wanted.direct script.now ∷ []) gathered.new)) }
-    ensures counted { OnOk result (HasCounted (S.files store.old) (S.faults store.old) (S.faults store.new) gathered.old.skips gathered.new.skips) }
-    ensures failed { IfErr result (λ fault. fault ≡ Failed → Rose (S.faults store.old) (S.faults store.new)) }
-    ensures store { OnlyReads (S.files store.old) (S.files store.new) (S.folders store.old) (S.folders store.new) (S.faults store.old) (S.faults store.new) }
+    ensures store { ReadsFiles (store_at (S.files store.old) (S.folders store.old) (S.faults store.old))
+        (store_at (S.files store.new) (S.folders store.new) (S.faults store.new))
+        gathered.old.skips gathered.new.skips result }
 {
     let url = script.url.as_text();
     let Some(path) = path_of(alloc, url)? else {
@@ -60,9 +58,9 @@ pub fn ask_sources<S: Store>(
     ensures gathers { OnOk result (WhereTold (S.files store.old) (λ told. (earlier : List Asked)
         → Gathers told earlier gathered.old
         → Gathers told (earlier ++ wanted.sources_asked script.now (option_and_then wanted.good_map (said_body body.now))) gathered.new)) }
-    ensures counted { OnOk result (HasCounted (S.files store.old) (S.faults store.old) (S.faults store.new) gathered.old.skips gathered.new.skips) }
-    ensures failed { IfErr result (λ fault. fault ≡ Failed → Rose (S.faults store.old) (S.faults store.new)) }
-    ensures store { OnlyReads (S.files store.old) (S.files store.new) (S.folders store.old) (S.folders store.new) (S.faults store.old) (S.faults store.new) }
+    ensures store { ReadsFiles (store_at (S.files store.old) (S.folders store.old) (S.faults store.old))
+        (store_at (S.files store.new) (S.folders store.new) (S.faults store.new))
+        gathered.old.skips gathered.new.skips result }
 {
     match good_map(alloc, body)? {
         Some(good) => ask_each(alloc, store, gathered, script, &good),
@@ -83,9 +81,9 @@ fn ask_each<S: Store>(
     ensures gathers { OnOk result (WhereTold (S.files store.old) (λ told. (earlier : List Asked)
         → Gathers told earlier gathered.old
         → Gathers told (earlier ++ wanted.sources_asked script.now (Some good.now)) gathered.new)) }
-    ensures counted { OnOk result (HasCounted (S.files store.old) (S.faults store.old) (S.faults store.new) gathered.old.skips gathered.new.skips) }
-    ensures failed { IfErr result (λ fault. fault ≡ Failed → Rose (S.faults store.old) (S.faults store.new)) }
-    ensures store { OnlyReads (S.files store.old) (S.files store.new) (S.folders store.old) (S.folders store.new) (S.faults store.old) (S.faults store.new) }
+    ensures store { ReadsFiles (store_at (S.files store.old) (S.folders store.old) (S.faults store.old))
+        (store_at (S.files store.new) (S.folders store.new) (S.faults store.new))
+        gathered.old.skips gathered.new.skips result }
 {
     let remapped = Remapped::of(
         alloc,
@@ -117,9 +115,9 @@ fn ask_place<S: Store>(
     ensures gathers { OnOk result (WhereTold (S.files store.old) (λ told. (earlier : List Asked)
         → Gathers told earlier gathered.old
         → Gathers told (earlier ++ wanted.asked_at script.now good.now (k, name.now)) gathered.new)) }
-    ensures counted { OnOk result (HasCounted (S.files store.old) (S.faults store.old) (S.faults store.new) gathered.old.skips gathered.new.skips) }
-    ensures failed { IfErr result (λ fault. fault ≡ Failed → Rose (S.faults store.old) (S.faults store.new)) }
-    ensures store { OnlyReads (S.files store.old) (S.files store.new) (S.folders store.old) (S.folders store.new) (S.faults store.old) (S.faults store.new) }
+    ensures store { ReadsFiles (store_at (S.files store.old) (S.folders store.old) (S.faults store.old))
+        (store_at (S.files store.new) (S.folders store.new) (S.faults store.new))
+        gathered.old.skips gathered.new.skips result }
 {
     if k > u32::MAX as usize {
         return Ok(());
@@ -155,9 +153,9 @@ fn ask_source<S: Store>(
     ensures gathers { OnOk result (WhereTold (S.files store.old) (λ told. (earlier : List Asked)
         → Gathers told earlier gathered.old
         → Gathers told (earlier ++ wanted.mapped script.now good.now k name.now ∷ []) gathered.new)) }
-    ensures counted { OnOk result (HasCounted (S.files store.old) (S.faults store.old) (S.faults store.new) gathered.old.skips gathered.new.skips) }
-    ensures failed { IfErr result (λ fault. fault ≡ Failed → Rose (S.faults store.old) (S.faults store.new)) }
-    ensures store { OnlyReads (S.files store.old) (S.files store.new) (S.folders store.old) (S.folders store.new) (S.faults store.old) (S.faults store.new) }
+    ensures store { ReadsFiles (store_at (S.files store.old) (S.folders store.old) (S.faults store.old))
+        (store_at (S.files store.new) (S.folders store.new) (S.faults store.new))
+        gathered.old.skips gathered.new.skips result }
 {
     let content = content_of(&good.map, k);
     let url = script.url.as_text();

@@ -11,7 +11,7 @@ ghost use Rattle.cov_report.specs.First.{ArePlaces};
 ghost use Rattle.cov_report.specs.Report.{report};
 ghost use Rattle.cov_report.specs.Skips.{has_absent};
 ghost use Rattle.cov_report.specs.Gathering.{Gathers};
-ghost use Rattle.cov_report.specs.Counting.{HasCounted, OnlyReads};
+ghost use Rattle.cov_report.specs.Counting.{ReadsFiles, store_at};
 ghost use Rattle.cov_report.specs.declared.answer.ReportFault.TheVariants.{Failed};
 
 use crate::asking::{ask_script, ask_sources};
@@ -74,9 +74,9 @@ fn gather<'a, S: Store>(
     ensures gathers { OnOk result (WhereTold (S.files store.old) (λ told. (earlier : List Asked)
         → Gathers told earlier gathered.old
         → Gathers told (earlier ++ asked scripts.now (map said entries.now)) gathered.new)) }
-    ensures counted { OnOk result (HasCounted (S.files store.old) (S.faults store.old) (S.faults store.new) gathered.old.skips gathered.new.skips) }
-    ensures failed { IfErr result (λ fault. fault ≡ Failed → Rose (S.faults store.old) (S.faults store.new)) }
-    ensures store { OnlyReads (S.files store.old) (S.files store.new) (S.folders store.old) (S.folders store.new) (S.faults store.old) (S.faults store.new) }
+    ensures store { ReadsFiles (store_at (S.files store.old) (S.folders store.old) (S.faults store.old))
+        (store_at (S.files store.new) (S.folders store.new) (S.faults store.new))
+        gathered.old.skips gathered.new.skips result }
 {
     let places = first_places(alloc, entries)?;
     for script in scripts {
@@ -100,9 +100,9 @@ fn ask<'a, S: Store>(
     ensures gathers { OnOk result (WhereTold (S.files store.old) (λ told. (earlier : List Asked)
         → Gathers told earlier gathered.old
         → Gathers told (earlier ++ asked_by script.now (entry_for (map said entries.now) script.now.url)) gathered.new)) }
-    ensures counted { OnOk result (HasCounted (S.files store.old) (S.faults store.old) (S.faults store.new) gathered.old.skips gathered.new.skips) }
-    ensures failed { IfErr result (λ fault. fault ≡ Failed → Rose (S.faults store.old) (S.faults store.new)) }
-    ensures store { OnlyReads (S.files store.old) (S.files store.new) (S.folders store.old) (S.folders store.new) (S.faults store.old) (S.faults store.new) }
+    ensures store { ReadsFiles (store_at (S.files store.old) (S.folders store.old) (S.faults store.old))
+        (store_at (S.files store.new) (S.folders store.new) (S.faults store.new))
+        gathered.old.skips gathered.new.skips result }
 {
     match entry_of(entries, places, script.url.as_text()) {
         Some(entry) => ask_sources(alloc, store, gathered, script, &entry.body),

@@ -1,13 +1,11 @@
 //! The text of a path: that of its file so far, the content that a map has, or what is read.
-ghost use Rattle.std.specs.Prelude.{◌≡◌, ◌≤◌, ℕ, List, Ok, Err, None, if◌then◌else◌, length, string_bytes, IfOk, IfErr, OnOk};
+ghost use Rattle.std.specs.Prelude.{◌≡◌, ◌≤◌, ℕ, List, None, if◌then◌else◌, length, IfOk};
 ghost use Rattle.std.specs.BTreeMap.{get, is_at};
-ghost use Rattle.cov_io.specs.Causes.{Rose};
 ghost use Rattle.cov_io.specs.Told.{WhereTold};
 ghost use Rattle.cov_text.specs.Listing.{max_text, text_cmp};
 ghost use Rattle.cov_report.specs.Wanted as wanted;
 ghost use Rattle.cov_report.specs.SoFar.{taken_from};
-ghost use Rattle.cov_report.specs.Counting.{ReadCounts, OnlyReads};
-ghost use Rattle.cov_report.specs.declared.answer.ReportFault.TheVariants.{Failed};
+ghost use Rattle.cov_report.specs.Counting.{ReadsText, store_at};
 
 use crate::files::PathFile;
 use crate::{ReportFault, SkipCause};
@@ -41,9 +39,8 @@ fn read_text<S: Store>(
 ) -> Result<Result<Text, SkipCause>, ReportFault>
     ensures text { IfOk result (λ own. WhereTold (S.files store.old) (λ files. own ≡ wanted.own_text files path.now None)) }
     ensures short { IfOk result (λ own. IfOk own (λ text. length text ≤ max_text)) }
-    ensures counts { IfOk result (λ own. ReadCounts (S.files store.old) (S.faults store.old) (S.faults store.new) own) }
-    ensures failed { IfErr result (λ fault. fault ≡ Failed → Rose (S.faults store.old) (S.faults store.new)) }
-    ensures store { OnlyReads (S.files store.old) (S.files store.new) (S.folders store.old) (S.folders store.new) (S.faults store.old) (S.faults store.new) }
+    ensures store { ReadsText (store_at (S.files store.old) (S.folders store.old) (S.faults store.old))
+        (store_at (S.files store.new) (S.folders store.new) (S.faults store.new)) result }
 {
     match store.read(alloc, path, MOST) {
         Ok(bytes) => Ok(text_in(bytes)),
@@ -73,9 +70,8 @@ fn own_text<S: Store>(
 ) -> Result<Result<Text, SkipCause>, ReportFault>
     ensures text { IfOk result (λ own. WhereTold (S.files store.old) (λ files. own ≡ wanted.own_text files path.now content.now)) }
     ensures short { IfOk result (λ own. IfOk own (λ text. length text ≤ max_text)) }
-    ensures counts { IfOk result (λ own. ReadCounts (S.files store.old) (S.faults store.old) (S.faults store.new) own) }
-    ensures failed { IfErr result (λ fault. fault ≡ Failed → Rose (S.faults store.old) (S.faults store.new)) }
-    ensures store { OnlyReads (S.files store.old) (S.files store.new) (S.folders store.old) (S.folders store.new) (S.faults store.old) (S.faults store.new) }
+    ensures store { ReadsText (store_at (S.files store.old) (S.folders store.old) (S.faults store.old))
+        (store_at (S.files store.new) (S.folders store.new) (S.faults store.new)) result }
 {
     match content {
         None => read_text(alloc, store, path),
@@ -97,9 +93,8 @@ pub fn taken<S: Store>(
     ensures file { IfOk result (λ found. WhereTold (S.files store.old)
         (λ told. found ≡ taken_from (get text_cmp files.old path.now) (wanted.own_text told path.now content.now))) }
     ensures others { (q : List ℕ) → get text_cmp files.new q ≡ (if is_at (text_cmp path.now) q then None else get text_cmp files.old q) }
-    ensures counts { IfOk result (λ found. ReadCounts (S.files store.old) (S.faults store.old) (S.faults store.new) found) }
-    ensures failed { IfErr result (λ fault. fault ≡ Failed → Rose (S.faults store.old) (S.faults store.new)) }
-    ensures store { OnlyReads (S.files store.old) (S.files store.new) (S.folders store.old) (S.folders store.new) (S.faults store.old) (S.faults store.new) }
+    ensures store { ReadsText (store_at (S.files store.old) (S.folders store.old) (S.faults store.old))
+        (store_at (S.files store.new) (S.folders store.new) (S.faults store.new)) result }
 {
     if let Some(file) = files.remove(path) {
         return Ok(Ok(file));

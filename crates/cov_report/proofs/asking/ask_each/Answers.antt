@@ -19,11 +19,13 @@ loop-k-preserved g c =
           subst (λ asked. Gathers told asked c.ask_place.new.gathered)
           (append_assoc earlier (sources_to c.args.script.now c.args.good.now k) (asked_at c.args.script.now c.args.good.now (k, name))
           ∙ ap (λ l. earlier ++ l) (sym (sources-more c.args.script.now c.args.good.now k name below is-at)))
-          (c.in_default.ensures.gathers told (c.loop-k.invariant.store.files ∙ is) (earlier ++ sources_to c.args.script.now c.args.good.now k) (c.loop-k.invariant.gathers told is earlier holds));
+          (c.in_default.ensures.gathers told (c.loop-k.invariant.files ∙ is) (earlier ++ sources_to c.args.script.now c.args.good.now k) (c.loop-k.invariant.gathers told is earlier holds));
       counted = Counted-more (g.S.Store.files c.args.store.now) (g.S.Store.faults c.args.store.now) (g.S.Store.faults c.loop-k.store) (g.S.Store.faults c.ask_place.new.store)
-          c.args.gathered.now.skips c.loop-k.gathered.skips c.ask_place.new.gathered.skips c.loop-k.invariant.store.later c.in_default.ensures.store.later c.loop-k.invariant.counted
-          (subst (λ f. HasCounted f (g.S.Store.faults c.loop-k.store) (g.S.Store.faults c.ask_place.new.store) c.loop-k.gathered.skips c.ask_place.new.gathered.skips) c.loop-k.invariant.store.files c.in_default.ensures.counted);
-      store = record { later = omega (arith, c.loop-k.invariant.store.later, c.in_default.ensures.store.later); files = c.in_default.ensures.store.files ∙ c.loop-k.invariant.store.files; folders = c.in_default.ensures.store.folders ∙ c.loop-k.invariant.store.folders };
+          c.args.gathered.now.skips c.loop-k.gathered.skips c.ask_place.new.gathered.skips c.loop-k.invariant.later c.in_default.ensures.store.later c.loop-k.invariant.counted
+          (subst (λ f. HasCounted f (g.S.Store.faults c.loop-k.store) (g.S.Store.faults c.ask_place.new.store) c.loop-k.gathered.skips c.ask_place.new.gathered.skips) c.loop-k.invariant.files c.in_default.ensures.store.counts);
+      later = omega (arith, c.loop-k.invariant.later, c.in_default.ensures.store.later);
+      files = c.in_default.ensures.store.files ∙ c.loop-k.invariant.files;
+      folders = c.in_default.ensures.store.folders ∙ c.loop-k.invariant.folders;
     }
 
 pub returns-clause-gathers : goal.returns-clause-gathers

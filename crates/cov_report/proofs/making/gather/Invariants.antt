@@ -1,10 +1,10 @@
-use Rattle.std.proofs.Common.{◌≡◌, List, ◌++◌, take, map}
+use Rattle.std.proofs.Common.{◌≡◌, ◌≤◌, List, ◌++◌, take, map}
 use Rattle.std.specs.Prelude.{Some}
 use Rattle.cov_io.specs.Told.{Files}
 use Rattle.source_maps.specs.Entries.{said}
 use Rattle.cov_report.specs.Wanted.{Asked, asked}
 use Rattle.cov_report.specs.Gathering.{Gathers}
-use Rattle.cov_report.specs.Counting.{HasCounted, OnlyReads}
+use Rattle.cov_report.specs.Counting.{HasCounted}
 use Rattle.cov_report.proofs.making.gather.Given as goal
 
 -- what was asked for so far is gathered, and the store has counted its faults
@@ -13,5 +13,7 @@ invariant-loop-script g l =
     record {
       gathers : (told : Files) → g.S.Store.files l.fn.store ≡ Some told → (earlier : List Asked) → Gathers told earlier l.fn.gathered → Gathers told (earlier ++ asked (take l.script-index l.scripts) (map said l.entries)) l.gathered;
       counted : HasCounted (g.S.Store.files l.fn.store) (g.S.Store.faults l.fn.store) (g.S.Store.faults l.store) l.fn.gathered.skips l.gathered.skips;
-      store : OnlyReads (g.S.Store.files l.fn.store) (g.S.Store.files l.store) (g.S.Store.folders l.fn.store) (g.S.Store.folders l.store) (g.S.Store.faults l.fn.store) (g.S.Store.faults l.store);
+      later : g.S.Store.faults l.fn.store ≤ g.S.Store.faults l.store;
+      files : g.S.Store.files l.store ≡ g.S.Store.files l.fn.store;
+      folders : g.S.Store.folders l.store ≡ g.S.Store.folders l.fn.store;
     }
