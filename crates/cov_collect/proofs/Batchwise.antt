@@ -294,20 +294,6 @@ fills waiting text all n old bytes is count was now =
     ap (λ m. nat_le 256 m || nat_le 33554432 (sum_by length all)) (sym count)
     ∙ ap (λ b. nat_le 256 n || b) (ap (nat_le 33554432) sum ∙ capped (old + length text) ∙ sym (ap (nat_le 33554432) now))
 
--- one text more waits
-pub Collects-wait : (texts waiting : Texts) (text : List ℕ) (book : Held) (answers : List Answer) (now : Texts) → now ≡ waiting ++ text ∷ [] → is_full now ≡ false
-    → Collects texts (record { book = book; answers = answers; waiting = waiting }) → Collects (texts ++ text ∷ []) (record { book = book; answers = answers; waiting = now })
-Collects-wait texts waiting text book answers now is few h =
-    subst (λ (ws : Texts). Collects (texts ++ text ∷ []) (record { book = book; answers = answers; waiting = ws })) (sym is) (record {
-      batches = h.batches;
-      whole = sym (append_assoc (joined h.batches) waiting (text ∷ [])) ∙ ap (λ xs. xs ++ text ∷ []) h.whole;
-      each = h.each;
-      full = h.full;
-      taken = h.taken;
-      few = ap is_full (sym is) ∙ few;
-      fewer = ap is_full (front waiting text) ∙ h.few;
-    })
-
 -- one text more fills the batch, which is taken
 pub Collects-full : (texts waiting : Texts) (text : List ℕ) (book : Held) (answers : List Answer) (all : Texts) (now : Collected)
     → all ≡ waiting ++ text ∷ [] → is_full all ≡ true

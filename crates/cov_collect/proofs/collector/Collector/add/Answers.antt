@@ -2,7 +2,7 @@ use Rattle.std.proofs.Common.{rules, ◌≡◌, ◌++◌, ◌∷◌, [], ap, sym
 use Rattle.std.specs.Prelude.{min, vec_items}
 use Rattle.std.proofs.lemmas.List.{map-append, length-map}
 use Rattle.cov_collect.specs.Batchwise.{Collects, is_full}
-use Rattle.cov_collect.proofs.Batchwise.{Collects-full, Collects-wait, fills}
+use Rattle.cov_collect.proofs.Batchwise.{Collects-full, fills}
 use Rattle.cov_collect.proofs.collector.Collector.add.Goals as goal
 
 pub returns : goal.returns
