@@ -20,7 +20,11 @@ use tungstenite::{RandomKeys, Role, WebSocket, WebSocketConfig, accept};
 /// The greatest message that is taken, in bytes: no longer text is read anywhere. A longer one is a fault.
 pub const LONGEST_MESSAGE: usize = 134_217_728;
 
-/// A net over TCP. It listens on 127.0.0.1 alone, tells no content, and raises its count at each error.
+/// How many connections one `accept` looks at. Where each had no handshake, the last of them is a fault.
+const CONNECTIONS: u32 = 1_000_000;
+
+/// A net over TCP. It listens on 127.0.0.1 alone, tells no content, and raises its count at each error. A peer that connects without
+/// a handshake is passed over, but for the 1,000,000th in a row within one call, which is a fault. One that is silent makes it wait.
 #[derive(Drop)]
 pub struct TcpNet<R: Sockets + Drop> {
     rt: R,
@@ -107,7 +111,7 @@ fn listening<R: Sockets>(rt: &R, port: u16) -> io::Result<(R::Listener, u16)> {
     Ok((listener, port))
 }
 
-// The next connection, its handshake done.
+// The next connection whose handshake is done. Another one is dropped.
 fn accepted<R: Sockets + RandomSource + Copy>(
     rt: &R,
     alloc: Global,
@@ -116,7 +120,23 @@ fn accepted<R: Sockets + RandomSource + Copy>(
     let Some(listener) = listener else {
         return Err(LinkFault::Failed);
     };
-    let (stream, _) = listener.accept().map_err(fault_of_io)?;
+    for _ in 0..CONNECTIONS {
+        let (stream, _) = listener.accept().map_err(fault_of_io)?;
+        match shaken(rt, alloc, stream) {
+            Ok(socket) => return Ok(socket),
+            Err(LinkFault::NoMemory) => return Err(LinkFault::NoMemory),
+            Err(LinkFault::Failed) => {}
+        }
+    }
+    Err(LinkFault::Failed)
+}
+
+// The handshake with a peer that has connected.
+fn shaken<R: Sockets + RandomSource + Copy>(
+    rt: &R,
+    alloc: Global,
+    stream: R::Stream,
+) -> Result<WebSocket<R::Stream, RandomKeys<R>>, LinkFault> {
     match accept(alloc, stream) {
         Ok(socket) => Ok(WebSocket::from_raw_socket(
             alloc,
