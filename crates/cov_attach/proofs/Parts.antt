@@ -8,7 +8,9 @@ use Rattle.cov_io.specs.Links.{LinkState}
 use Rattle.cov_attach.specs.declared.fault.AttachFault.{AttachFault}
 use Rattle.cov_attach.specs.declared.fault.AttachFault.TheVariants.{Failed, Closed, Peer, NoMemory}
 use Rattle.cov_attach.specs.declared.fault.AttachAllFault.{AttachAllFault}
-use Rattle.cov_attach.specs.Gathered.{AreSessions, AreRun, Gathers, FaultTold, least_fault}
+use Rattle.cov_attach.specs.Gathered.{AreSessions, AreRun, Gathers, FaultTold, least_fault, AllTell, run_ends, stop_of, StopTold, TellsRuns}
+use Rattle.cov_attach.specs.Runs.{run_end}
+use Rattle.cov_attach.specs.Sessions.{FaultOf}
 
 pub both_run : {L : Type 0} (state : L → LinkState) (faults : L → ℕ) (takes : ℕ) (xs ys xs' ys' : List L) (a b : List (Result (List Snapshot) AttachFault))
     → AreSessions state faults takes xs ys a → AreSessions state faults takes xs' ys' b → AreSessions state faults takes (xs ++ xs') (ys ++ ys') (a ++ b)
@@ -78,3 +80,73 @@ are_run state faults items takes first middle xs ys xs' ys' front back result p 
   sessions = both_run state faults takes xs ys xs' ys' p.answers q.answers p.sessions q.sessions;
   told = both first p.answers q.answers (omega (arith, e, answers_each state faults takes xs ys p.answers p.sessions)) p.told q.told;
 }
+
+-- ---- links that tell their texts
+
+ran_so : {L : Type 0} (state : L → LinkState) (faults : L → ℕ) (takes n : ℕ) (xs ys : List L) (a : List (Result (List Snapshot) AttachFault))
+    (all : List (List (List ℕ))) → AreSessions state faults takes xs ys a → AllTell state xs all → least_fault n a ≡ None
+    → (least_fault n (run_ends takes all) ≡ None) × (filter_map result_ok a ≡ filter_map result_ok (run_ends takes all))
+ran_so state faults takes n [] [] [] [] p q e = (refl, refl)
+ran_so state faults takes n (x ∷ xs) (y ∷ ys) (Ok taken ∷ a) (texts ∷ all) p q e =
+    let rest = ran_so state faults takes (n + 1) xs ys a all p.2 q.1 e in
+    let is : run_end takes texts ≡ Ok taken = p.0.answer texts q.0 in (
+      ap (λ r. least_fault n (r ∷ run_ends takes all)) is ∙ rest.0,
+      ap (λ zs. taken ∷ zs) rest.1 ∙ ap (λ r. filter_map result_ok (r ∷ run_ends takes all)) (sym is),
+    )
+ran_so state faults takes n (x ∷ xs) (y ∷ ys) (Err fault ∷ a) (texts ∷ all) p q e = cc
+ran_so state faults takes n [] [] [] (texts ∷ all) p q e = absurd q
+ran_so state faults takes n (x ∷ xs) (y ∷ ys) (r ∷ a) [] p q e = absurd q
+ran_so state faults takes n [] (y ∷ ys) a all p q e = absurd p
+ran_so state faults takes n [] [] (r ∷ a) all p q e = absurd p
+ran_so state faults takes n (x ∷ xs) [] a all p q e = absurd p
+ran_so state faults takes n (x ∷ xs) (y ∷ ys) [] all p q e = absurd p
+
+-- the first fault is the end of its run
+first_so : (n takes : ℕ) (fault : AttachFault) (texts : List (List ℕ)) (rest : List (Result (List Snapshot) AttachFault))
+    → FaultOf fault (run_end takes texts)
+    → StopTold (record { session = n; fault = fault }) fault (least_fault n (run_end takes texts ∷ rest))
+first_so n takes Failed texts rest e = tt
+first_so n takes NoMemory texts rest e = tt
+first_so n takes Closed texts rest e = ap (λ r. least_fault n (r ∷ rest)) e
+first_so n takes (Peer message why) texts rest e = ap (λ r. least_fault n (r ∷ rest)) e
+
+stopped_so : {L : Type 0} (state : L → LinkState) (faults : L → ℕ) (takes n : ℕ) (xs ys : List L) (a : List (Result (List Snapshot) AttachFault))
+    (all : List (List (List ℕ))) (told : AttachAllFault) → AreSessions state faults takes xs ys a → AllTell state xs all → least_fault n a ≡ Some told
+    → StopTold told told.fault (least_fault n (run_ends takes all))
+stopped_so state faults takes n [] [] [] [] told p q e = cc
+stopped_so state faults takes n (x ∷ xs) (y ∷ ys) (Ok taken ∷ a) (texts ∷ all) told p q e =
+    let is : run_end takes texts ≡ Ok taken = p.0.answer texts q.0 in
+    subst (StopTold told told.fault) (ap (λ r. least_fault n (r ∷ run_ends takes all)) (sym is))
+    (stopped_so state faults takes (n + 1) xs ys a all told p.2 q.1 e)
+stopped_so state faults takes n (x ∷ xs) (y ∷ ys) (Err fault ∷ a) (texts ∷ all) told p q e =
+    subst (λ t. StopTold t t.fault (least_fault n (run_ends takes (texts ∷ all)))) (some_is _ _ e)
+    (first_so n takes fault texts (run_ends takes all) (p.0.answer texts q.0))
+  where
+    some_is : (s t : AttachAllFault) → Some s ≡ Some t → s ≡ t
+    some_is s t e = cc
+stopped_so state faults takes n [] [] [] (texts ∷ all) told p q e = absurd q
+stopped_so state faults takes n (x ∷ xs) (y ∷ ys) (r ∷ a) [] told p q e = absurd q
+stopped_so state faults takes n [] (y ∷ ys) a all told p q e = absurd p
+stopped_so state faults takes n [] [] (r ∷ a) all told p q e = absurd p
+stopped_so state faults takes n (x ∷ xs) [] a all told p q e = absurd p
+stopped_so state faults takes n (x ∷ xs) (y ∷ ys) [] all told p q e = absurd p
+
+-- what was told of the answers, where memory didn't run out
+told_stop : {L : Type 0} (state : L → LinkState) (faults : L → ℕ) (takes : ℕ) (xs ys : List L) (a : List (Result (List Snapshot) AttachFault))
+    (all : List (List (List ℕ))) (told : AttachAllFault) (fault : AttachFault) → told.fault ≡ fault → AreSessions state faults takes xs ys a
+    → AllTell state xs all → FaultTold told fault (least_fault 0 a) → StopTold told fault (stop_of takes all)
+told_stop state faults takes xs ys a all told NoMemory is p q e = tt
+told_stop state faults takes xs ys a all told Failed is p q e = tt
+told_stop state faults takes xs ys a all told Closed is p q e =
+    subst (λ f. StopTold told f (stop_of takes all)) is (stopped_so state faults takes 0 xs ys a all told p q e)
+told_stop state faults takes xs ys a all told (Peer message why) is p q e =
+    subst (λ f. StopTold told f (stop_of takes all)) is (stopped_so state faults takes 0 xs ys a all told p q e)
+
+pub tells_runs : {L V : Type 0} (state : L → LinkState) (faults : L → ℕ) (items : V → List (List Snapshot)) (takes : ℕ) (xs ys : List L)
+    (all : List (List (List ℕ))) (result : Result V AttachAllFault) → AreRun state faults items takes 0 xs ys result → AllTell state xs all
+    → TellsRuns items takes all result
+tells_runs state faults items takes xs ys all (Ok taken) run told =
+    let so = ran_so state faults takes 0 xs ys run.answers all run.sessions told run.told.0 in
+    (so.0, run.told.1 ∙ so.1)
+tells_runs state faults items takes xs ys all (Err fault) run told =
+    told_stop state faults takes xs ys run.answers all fault fault.fault refl run.sessions told run.told

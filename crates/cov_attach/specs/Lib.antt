@@ -3,3 +3,4 @@ pub mod Runs
 pub mod Sessions
 pub mod Gathered
 pub mod Steps
+pub mod Places

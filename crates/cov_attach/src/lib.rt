@@ -3,6 +3,7 @@
 
 mod fault;
 mod many;
+mod places;
 mod session;
 #[cfg(test)]
 mod tests;
@@ -10,4 +11,5 @@ mod tests;
 pub use cov_session::PeerWhy;
 pub use fault::{AttachAllFault, AttachFault};
 pub use many::attach_all;
+pub use places::{PlacesFault, attach_places};
 pub use session::run_session;

@@ -5,7 +5,7 @@ ghost use Rattle.std.specs.Thread.{IsSync};
 ghost use Rattle.cov_model.specs.declared.snapshot.Snapshot.{Snapshot};
 ghost use Rattle.cov_attach.specs.declared.fault.AttachFault.{AttachFault};
 ghost use Rattle.cov_attach.specs.declared.fault.AttachFault.TheVariants.{NoMemory};
-ghost use Rattle.cov_attach.specs.Gathered.{AreRun, Gathers};
+ghost use Rattle.cov_attach.specs.Gathered.{AllTell, AreRun, Gathers, TellsRuns};
 
 use crate::{AttachAllFault, AttachFault, run_session};
 use cov_io::Link;
@@ -27,7 +27,8 @@ pub fn attach_all<L: Link + Send, R: Threads + Wait + Sync>(
     links: &mut [L],
     takes: u32,
 ) -> Result<Vec<Items<Snapshot>>, AttachAllFault>
-    ensures { AreRun L.state L.faults vec_items takes 0 links.old links.new result }
+    ensures sessions { AreRun L.state L.faults vec_items takes 0 links.old links.new result }
+    ensures runs { (all : List (List (List ℕ))) → AllTell L.state links.old all → TellsRuns vec_items takes all result }
 {
     let all = Part {
         alloc,
