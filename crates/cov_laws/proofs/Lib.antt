@@ -3,3 +3,4 @@ pub mod Small
 pub mod OneFile
 pub mod Offsets
 pub mod OfTexts
+pub mod ReadBack

@@ -22,7 +22,7 @@ use Rattle.json_shapes.specs.Shapes.{◌>>=◌, or_fault, whole, offset_of, pars
 use Rattle.cov_model.specs.Reading.{nowhere, at_script, at_function, at_range, taken_as, member_as, each_item, range_of, nested_or_fault, report_of, entry_of, snapshot_of, shaped, reading}
 use Rattle.cov_laws.specs.Laws.{AreRead, IsRead, HasOffsets, ReadingsAreRead}
 
-is-ok : {A E : Type 0} (a b : A) → ◌≡◌ {A = Result A E} (Ok a) (Ok b) → a ≡ b
+pub is-ok : {A E : Type 0} (a b : A) → ◌≡◌ {A = Result A E} (Ok a) (Ok b) → a ≡ b
 is-ok a b e = cc
 
 -- ---- one offset
@@ -83,7 +83,7 @@ each-read reads P each (item d ds) k xs h = consed (reads k d) (each_item reads 
 abbrev IsReportInRange : FunctionReport → Type 0
 IsReportInRange f = AllByRecursion IsRangeInRange f.ranges
 
-nested-same : (place : Place) (fault : Option RangeFault) (report f : FunctionReport) → nested_or_fault place fault report ≡ Ok f → report ≡ f
+pub nested-same : (place : Place) (fault : Option RangeFault) (report f : FunctionReport) → nested_or_fault place fault report ≡ Ok f → report ≡ f
 nested-same place None report f h = is-ok report f h
 nested-same place (Some fault) report f h = absurd cc
 
@@ -145,7 +145,7 @@ shape-read : (d : Data) (snapshot : Snapshot) → snapshot_of d ≡ Ok snapshot 
 unfolding snapshot_of
 shape-read d snapshot h = scripts-from (taken_as as_object nowhere Top d) (member_as as_array nowhere ResultList (codes "result") d) snapshot h
 
-shaped-from : (r : Result Snapshot ShapeFault) (snapshot : Snapshot) → shaped r ≡ Ok snapshot → r ≡ Ok snapshot
+pub shaped-from : (r : Result Snapshot ShapeFault) (snapshot : Snapshot) → shaped r ≡ Ok snapshot → r ≡ Ok snapshot
 shaped-from (Ok s) snapshot h = ap Ok (is-ok s snapshot h)
 shaped-from (Err e) snapshot h = absurd cc
 

@@ -82,7 +82,7 @@ written-entries : (k : ℕ) (es : List Entry) → AllByRecursion HasAllSmall es 
 written-entries k [] h = tt
 written-entries k (e ∷ es) h = (written-entry k e h.0, written-entries (suc k) es h.1)
 
-written-result : (es : List Entry) → AllByRecursion HasAllSmall es → IsWritten (result_data es)
+pub written-result : (es : List Entry) → AllByRecursion HasAllSmall es → IsWritten (result_data es)
 unfolding scripts_data
 written-result es h = (written-entries 0 es h, tt)
 

@@ -2,9 +2,12 @@
 use Rattle.std.specs.Prelude.{◌≡◌, ◌<◌, ◌^◌, ◌↔◌, ℕ, List, map, Ok, IsTrue}
 use Rattle.std.specs.List.{AllByRecursion}
 use Rattle.serde_json.specs.Data.{Data}
+use Rattle.serde_json.specs.Written.{compact_text}
+use Rattle.cov_model.specs.declared.report.Range.{Range}
+use Rattle.cov_model.specs.declared.snapshot.Entry.{Entry}
 use Rattle.cov_model.specs.declared.snapshot.Snapshot.{Snapshot}
 use Rattle.cov_model.specs.Sums.{fits}
-use Rattle.cov_model.specs.File.{file}
+use Rattle.cov_model.specs.File.{file, result_data}
 use Rattle.cov_model.specs.Reading.{reading, snapshot_of}
 use Rattle.cov_model.specs.Held.{held_of}
 use Rattle.cov_model.specs.Outcome.{accepted}
@@ -37,6 +40,18 @@ OneFileOfTexts =
     (texts more : List (List ℕ))
     → (file (accepted (map reading texts)) ≡ file (accepted (map reading more)))
     ↔ (held_of (accepted (map reading texts)) ≡ held_of (accepted (map reading more)))
+
+-- Offsets are below 2^32, and counts below 2^64.
+abbrev pub IsInBounds : Range → Type 0
+IsInBounds r = (r.start < 2 ^ 32) × (r.end < 2 ^ 32) × (r.count < 2 ^ 64)
+
+abbrev pub AreInBounds : List Entry → Type 0
+AreInBounds entries = AllByRecursion (λ entry. AllByRecursion (λ f. AllByRecursion IsInBounds f.ranges) entry.functions) entries
+
+-- The text of scripts is read as these scripts, or not at all.
+abbrev pub ReadBack : Type 0
+ReadBack =
+    (scripts : List Entry) (snapshot : Snapshot) → AreInBounds scripts → reading (compact_text (result_data scripts)) ≡ Ok snapshot → snapshot ≡ scripts
 
 -- ---- within the proofs
 

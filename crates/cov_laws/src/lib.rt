@@ -5,7 +5,7 @@ ghost use Rattle.std.specs.Prelude.{◌≡◌, ◌↔◌, List, IsTrue};
 ghost use Rattle.cov_model.specs.declared.snapshot.Snapshot.{Snapshot};
 ghost use Rattle.cov_model.specs.File.{file};
 ghost use Rattle.cov_book.specs.Stands.{StandsFor};
-ghost use Rattle.cov_laws.specs.Laws.{AcceptedAreRead, AreRead, OneFile, OneFileOfTexts, ReadingsAreRead};
+ghost use Rattle.cov_laws.specs.Laws.{AcceptedAreRead, AreRead, OneFile, OneFileOfTexts, ReadBack, ReadingsAreRead};
 
 use cov_book::Book;
 
@@ -22,6 +22,11 @@ pub fn one_file()
 pub fn one_file_of_texts()
     ensures sums { OneFileOfTexts }
     ensures read { AcceptedAreRead }
+{}
+
+/// The text of scripts is read as these scripts, or not at all: no text is written that comes back as something else.
+pub fn read_back()
+    ensures { ReadBack }
 {}
 
 /// Whether two books agree, and so come to one merged file, byte for byte. It takes no memory and writes neither file. What the
