@@ -7,7 +7,7 @@ use Rattle.clap.specs.ValueTests.{is_unsigned_in}
 use Rattle.clap.specs.declared.builder.value_parser.ValueParser.TheVariants.{Unsigned}
 use Rattle.clap.specs.Faults.{fault_of}
 use Rattle.cov_words.specs.declared.command.Command.{Command}
-use Rattle.cov_words.specs.declared.command.Command.TheVariants.{Merge, Same, Normal, Upgrade, Report, Check}
+use Rattle.cov_words.specs.declared.command.Command.TheVariants.{Merge, Same, Normal, Upgrade, Report, Check, Make}
 use Rattle.cov_words.specs.declared.command.Form.{Form}
 use Rattle.cov_words.specs.declared.command.Form.TheVariants as form
 
@@ -114,6 +114,17 @@ check_from rows =
     option_and_then (λ folder. check_with folder (percent_of (codes "lines") rows) (percent_of (codes "branches") rows) (percent_of (codes "functions") rows))
     (first_of (codes "folder") rows)
 
+-- a positional that has to be given, a whole number in bounds
+abbrev pub wanted_number : ℕ → ℕ → Text → Rule
+wanted_number least most name = record (wanted name) { parser = Some (Unsigned least most) }
+
+abbrev pub make_app : App
+make_app = with_rule (with_rule (new_app (codes "make")) (wanted_number 0 2147483647 (codes "seed"))) (wanted_number 1 100000 (codes "count"))
+
+abbrev pub make_from : List Row → Option Command
+make_from rows =
+    option_and_then (λ seed. option_map (λ count. Make seed count) (number_of 1 100000 (codes "count") rows)) (number_of 0 2147483647 (codes "seed") rows)
+
 -- each threshold is a percentage
 abbrev pub HasPercents : Command → Type 0
 HasPercents (Merge folder) = Unit {0}
@@ -122,6 +133,7 @@ HasPercents (Normal file) = Unit {0}
 HasPercents (Upgrade file) = Unit {0}
 HasPercents (Report folder form) = Unit {0}
 HasPercents (Check folder lines branches functions) = (lines ≤ 100) × (branches ≤ 100) × (functions ≤ 100)
+HasPercents (Make seed count) = Unit {0}
 
 -- ---- all commands
 
@@ -134,6 +146,7 @@ named name words =
     else if same_text name (codes "upgrade") then asked upgrade_app upgrade_from words
     else if same_text name (codes "report") then asked report_app report_from words
     else if same_text name (codes "check") then asked check_app check_from words
+    else if same_text name (codes "make") then asked make_app make_from words
     else None
 
 -- the command of these words, which the first of them names

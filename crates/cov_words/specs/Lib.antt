@@ -1,3 +1,4 @@
 pub mod Asked
 pub mod Child
 pub mod Groups
+pub mod Live

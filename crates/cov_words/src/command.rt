@@ -33,6 +33,12 @@ pub enum Command {
         branches: u64,
         functions: u64,
     },
+    /// `make SEED COUNT`: what so many snapshots made of a seed come to. The seed is at most 2,147,483,647; there is one
+    /// snapshot at least, and 100,000 at most.
+    Make {
+        seed: u32,
+        count: u32,
+    },
 }
 
 /// How a report is written.
@@ -60,6 +66,25 @@ pub struct Run {
     pub form: Form,
     /// The program and its words. There is one at least.
     pub words: Items<Text>,
+}
+
+/// A command that speaks over links.
+#[derive(Debug, Drop)]
+pub enum Live {
+    /// `serve FOLDER --port P --sessions N --pace K`: a folder's texts, replayed to so many clients, from 1 to 64. Each take plays so many
+    /// texts, from 0 to 1,000. A port of 0 is one that the system chooses.
+    Serve {
+        folder: Text,
+        port: u16,
+        sessions: u32,
+        pace: u32,
+    },
+    /// `attach PLACE.. --takes N`: the one normal file of what so many takes of each place tell, from 1 to 1,000. A place is
+    /// `HOST:PORT/PATH`.
+    Attach {
+        places: Items<Text>,
+        takes: u32,
+    },
 }
 
 /// The commands of one call: which call reads the words is told by the first of them.

@@ -4,10 +4,13 @@
 mod child;
 mod collect;
 mod command;
+mod live;
+mod make;
 mod options;
 mod reading;
 
 pub use child::read_run;
 pub use collect::{group_of, read_collect};
-pub use command::{Collect, Command, Form, Group, Run, WordsFault};
+pub use command::{Collect, Command, Form, Group, Live, Run, WordsFault};
+pub use live::read_live;
 pub use reading::read_words;

@@ -20,7 +20,7 @@ pub(crate) fn option<'a>(alloc: Global, name: &'a str, value: &'a str) -> Arg<'a
 }
 
 /// Whole numbers in bounds.
-fn bounded<'a>(least: u32, most: u32) -> ValueParser<'a>
+pub(crate) fn bounded<'a>(least: u32, most: u32) -> ValueParser<'a>
     ensures { result ≡ Unsigned least most }
 {
     clap::value_parser!(u64).range(least as i64..=most as i64)

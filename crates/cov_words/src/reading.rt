@@ -4,6 +4,7 @@ ghost use Rattle.clap.specs.Words.{Row, app_of, first_of, found_of, is_simple_an
 ghost use Rattle.cov_words.specs.declared.command.Command.{Command};
 ghost use Rattle.cov_words.specs.Asked.{Finds, FindsNone, HasPercents, asked, command_of, file_app, merge_app, merge_from, named, normal_app, normal_from, same_app, same_from, upgrade_app, upgrade_from, wanted};
 
+use crate::make::read_make;
 use crate::options::{read_check, read_report};
 use crate::{Command, WordsFault};
 use clap::error::ErrorKind;
@@ -46,6 +47,8 @@ fn read_named(alloc: Global, name: &str, words: &[String]) -> Result<Command, Wo
         read_report(alloc, words)
     } else if name == "check" {
         read_check(alloc, words)
+    } else if name == "make" {
+        read_make(alloc, words)
     } else {
         Err(WordsFault::Usage)
     }
