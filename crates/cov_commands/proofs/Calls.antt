@@ -5,6 +5,8 @@ use Rattle.std.specs.Io.KnownBytes.{Appends}
 use Rattle.std.proofs.lemmas.List.{append-nil}
 use Rattle.cov_io.specs.Causes.{Rose}
 use Rattle.cov_io.specs.Grows.{longest_after}
+use Rattle.json_pieces.specs.Pieces.{piece}
+use Rattle.json_pieces.proofs.Steps.{appends-same, appends-join, within-same}
 use Rattle.cov_commands.specs.declared.due.Due.{Due}
 use Rattle.cov_commands.specs.declared.ended.Ended.{Ended}
 use Rattle.cov_commands.specs.declared.ended.Ended.TheVariants.{Usage, ReadFault, WriteFault, NoMemory}
@@ -16,16 +18,6 @@ use Rattle.cov_commands.proofs.Parts.{part-same}
 use Rattle.cov_commands.proofs.Went.{finished-line}
 
 -- ---- bytes
-
-appends-same : (told : Option (List ℕ)) → Appends told told []
-appends-same None = tt
-appends-same (Some xs) = sym (append-nil xs)
-
-appends-join : (a b c : Option (List ℕ)) (x y : List ℕ) → Appends a b x → Appends b c y → Appends a c (x ++ y)
-appends-join None b c x y p q = tt
-appends-join (Some a) None c x y p q = absurd p
-appends-join (Some a) (Some b) None x y p q = absurd q
-appends-join (Some a) (Some b) (Some c) x y p q = q ∙ ap (λ bytes. bytes ++ y) p ∙ append_assoc a x y
 
 rose-before : (a b c : ℕ) → a ≤ b → Rose b c → Rose a c
 rose-before a b c le rose = omega (arith, rose)
@@ -76,6 +68,7 @@ puts-nothing out err ended not_write = record {
   kept = λ finished. (refl, refl);
   silent = λ unfinished none. (refl, refl, refl);
   later = (omega arith, omega arith);
+  within = within-same piece out.longest;
 }
 
 -- ---- a body, and what is put out of it
@@ -123,6 +116,7 @@ module _ {W O E : Type 0} (duty : Duty W) (before mid : Moment W O E) (err : Sin
         out_prefix = puts.out_prefix;
         err_prefix = (puts.err_prefix.0, line-behind before.err mid.err err (take puts.err_prefix.0 owed.err) (last_line ended) puts.later.1 puts.err_prefix.1 last.gains);
         handed = last.handed;
+        within = puts.within;
         order = elim puts.order [
           | inl whole ↦ inl whole
           | inr same ↦ inr (subst (λ (e : SinkAt E). GainsLine e err [] (last_line ended)) same last.gains)

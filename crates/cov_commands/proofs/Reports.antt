@@ -1,17 +1,19 @@
 -- The report of a folder, of what was taken of it.
-use Rattle.std.proofs.Common.{◌≡◌, ℕ, List, ◌++◌, map, ap, ap₂, ◌∙◌}
+use Rattle.std.proofs.Common.{◌≡◌, ℕ, List, ◌++◌, map, sym, ap, ap₂, ◌∙◌}
+use Rattle.std.proofs.lemmas.Simd.{map-map}
 use Rattle.cov_model.specs.declared.snapshot.Snapshot.{Snapshot}
-use Rattle.cov_model.specs.Outcome.{accepted}
+use Rattle.cov_model.specs.Reading.{reading}
+use Rattle.cov_model.specs.Outcome.{Reading, accepted, answers}
 use Rattle.cov_io.specs.Told.{Files, names_in}
 use Rattle.cov_book.specs.declared.book.Book.{Book}
 use Rattle.cov_book.specs.Stands.{StandsFor}
 use Rattle.source_maps.specs.Entries.{Said, said}
 use Rattle.cov_report.specs.declared.answer.Report.{Report}
 use Rattle.cov_report.specs.Report as reports
-use Rattle.cov_report.specs.Texts.{skip_lines}
+use Rattle.cov_report.specs.Texts.{entries_of_taken, report_of_texts, skip_lines}
 use Rattle.cov_commands.specs.declared.gather.Merged.{Merged}
 use Rattle.cov_commands.specs.declared.gather.Maps.TheVariants.{Kept}
-use Rattle.cov_commands.specs.Due.{readings, report_in}
+use Rattle.cov_commands.specs.Due.{text_at, text_paths, readings, report_in}
 use Rattle.cov_commands.specs.Gather.{HasTaken, HasKept}
 use Rattle.cov_commands.specs.Reporting.{TellsReport}
 
@@ -19,9 +21,12 @@ use Rattle.cov_commands.specs.Reporting.{TellsReport}
 pub is-report-in : (folder : List ℕ) (files : Files) (b : Book) (m : Merged) (r : Report)
     → HasTaken folder files (names_in folder files) b m → HasKept Kept folder files (names_in folder files) m
     → ((held : List Snapshot) → StandsFor b held → r ≡ reports.report held (map said m.entries.items) files) → r ≡ report_in folder files
-unfolding report_in
+unfolding report_in report_of_texts
 is-report-in folder files b m r taken kept made =
-    made (accepted (readings folder files)) taken.book ∙ ap (λ (entries : List Said). reports.report (accepted (readings folder files)) entries files) kept
+    let paths = text_paths folder files in
+    made (accepted (readings folder files)) taken.book
+    ∙ ap (λ (entries : List Said). reports.report (accepted (readings folder files)) entries files) kept
+    ∙ ap (λ (rs : List Reading). reports.report (accepted rs) (entries_of_taken (map (text_at files) paths) (answers rs)) files) (sym (map-map reading (text_at files) paths))
 
 -- and is told with its lines
 pub tells-report : (folder : List ℕ) (files : Files) (b : Book) (m : Merged) (r : Report) (written : List ℕ)

@@ -9,7 +9,7 @@ use Rattle.cov_model.specs.declared.snapshot.Snapshot.{Snapshot}
 use Rattle.cov_model.specs.File.{file}
 use Rattle.cov_model.specs.Outcome.{accepted}
 use Rattle.cov_words.specs.declared.command.Command.{Command}
-use Rattle.cov_words.specs.declared.command.Command.TheVariants.{Merge, Same, Normal, Upgrade, Report, Check}
+use Rattle.cov_words.specs.declared.command.Command.TheVariants.{Merge, Same, Normal, Upgrade, Report, Check, Make}
 use Rattle.cov_commands.specs.declared.due.Due.{Due}
 use Rattle.cov_commands.specs.declared.ended.Ended.{Ended}
 use Rattle.cov_commands.specs.declared.ended.Ended.TheVariants.{Done, Different, Below, Usage, SomeRefused, ReadFault, WriteFault, SpawnFault, Child, NoMemory}
@@ -21,6 +21,7 @@ use Rattle.cov_commands.specs.Stores.{StoreAt, StillTells}
 use Rattle.cov_commands.specs.Tool.{Reader, reading_duty, IsPlainEnd, merge_reader, same_reader, file_reader, normal_reader, upgrade_reader, report_reader, check_reader, tool_duty}
 use Rattle.cov_commands.proofs.Answered.{answer-found, found-there, differs, no-same-end, tells-file}
 use Rattle.cov_commands.proofs.Calls.{IsLawful}
+use Rattle.cov_commands.proofs.Makes.{make-lawful}
 
 -- ---- ends
 
@@ -177,3 +178,4 @@ tool-lawful (Normal path) = lawful (normal_reader path)
 tool-lawful (Upgrade path) = lawful (upgrade_reader path)
 tool-lawful (Report folder form) = lawful (report_reader form folder)
 tool-lawful (Check folder lines branches functions) = lawful (check_reader lines branches functions folder)
+tool-lawful (Make seed count) = make-lawful seed count

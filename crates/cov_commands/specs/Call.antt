@@ -1,6 +1,7 @@
 -- One call of a command: `Call` is the whole contract of a top call, for any type of commands.
 use Rattle.std.specs.Prelude.{◌≡◌, ◌≤◌, ◌⊎◌, ℕ, [], take, Option, None}
 use Rattle.cov_io.specs.Told.{WhereTold}
+use Rattle.json_pieces.specs.Pieces.{IsWithin, piece}
 use Rattle.cov_commands.specs.declared.ended.Ended.{Ended}
 use Rattle.cov_commands.specs.declared.ended.Ended.TheVariants.{Usage, WriteFault, ReadFault, NoMemory}
 use Rattle.cov_commands.specs.Ends.{IsFinished, IsFinishedOrShort, last_line}
@@ -36,6 +37,8 @@ pub record Ran {W O E : Type 0} (duty : Duty W) (before now : Moment W O E) (end
   pub err_prefix : (m : ℕ) × GainsLine before.err now.err (take m owed.err) (last_line ended)
   -- The error sink was handed a piece that is no shorter than the last line: the line itself, where no earlier one was longer.
   pub handed : HasHanded now.err.longest (last_line ended)
+  -- Whatever the answer, the longest piece that the output was handed is at most the greater of 65,536 bytes and what it was.
+  pub within : IsWithin piece before.out.longest now.out.longest
   -- The output is whole before the error sink gets anything but the last line.
   pub order : Gains before.out now.out owed.out ⊎ GainsLine before.err now.err [] (last_line ended)
   -- `WriteFault` comes only where the output failed, or where the error sink failed and the output is whole.

@@ -18,8 +18,7 @@ use Rattle.lcov_text.specs.Lcov.{lcov}
 use Rattle.cov_table.specs.Shares.{summary, misses, check_text}
 use Rattle.cov_table.specs.Table.{table}
 use Rattle.cov_report.specs.declared.answer.Report.{Report}
-use Rattle.cov_report.specs.Report.{report}
-use Rattle.cov_report.specs.Texts.{entries_of_taken, skip_lines}
+use Rattle.cov_report.specs.Texts.{entries_of_taken, report_of_texts, skip_lines}
 use Rattle.cov_commands.specs.declared.ended.Ended.{Ended}
 use Rattle.cov_commands.specs.declared.ended.Ended.TheVariants.{Done, Different, Below, SomeRefused}
 use Rattle.cov_commands.specs.Owed.{Owed}
@@ -128,9 +127,9 @@ DifferInBytes one other = file one ≡ file other → ⊥
 abbrev pub entries_at : Files → List (List ℕ) → List Said
 entries_at files paths = entries_of_taken (map (text_at files) paths) (answers (map (reading_at files) paths))
 
--- The report of a folder's accepted texts, with their map entries, over all files.
+-- The report of a folder's texts over all files.
 unfoldable pub report_in : List ℕ → Files → Report
-report_in folder files = report (accepted (readings folder files)) (entries_at files (text_paths folder files)) files
+report_in folder files = report_of_texts (map (text_at files) (text_paths folder files)) files
 
 -- the text of files in a form
 abbrev pub text_in : Form → List FileParts → List ℕ

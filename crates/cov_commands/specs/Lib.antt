@@ -11,6 +11,7 @@ pub mod Owed
 pub mod Sinks
 pub mod Stores
 pub mod Call
+pub mod Making
 pub mod Tool
 pub mod Child
 pub mod Collect

@@ -1,6 +1,10 @@
 -- What a command owes, before anything is put out.
 use Rattle.std.specs.Prelude.{ℕ, List, [], Result, IfOk, IfErr}
+use Rattle.serde_json.specs.Written.{compact_text}
+use Rattle.cov_model.specs.File.{result_data}
 use Rattle.cov_commands.specs.declared.due.Due.{Due}
+use Rattle.cov_commands.specs.declared.due.Output.{Output}
+use Rattle.cov_commands.specs.declared.due.Output.TheVariants.{Bytes, Scripts}
 use Rattle.cov_commands.specs.declared.ended.Ended.{Ended}
 use Rattle.cov_commands.specs.Ends.{IsFinished}
 
@@ -15,8 +19,12 @@ abbrev pub early : Ended → Owed
 early ended = record { out = []; err = []; ended = ended }
 
 -- what a body has made of it
+abbrev pub text_of : Output → List ℕ
+text_of (Bytes bytes) = bytes
+text_of (Scripts scripts) = compact_text (result_data scripts)
+
 abbrev pub owed_of : Due → Owed
-owed_of due = record { out = due.out; err = due.err; ended = due.ended }
+owed_of due = record { out = text_of due.out; err = due.err; ended = due.ended }
 
 -- What a command has to do, by what is outside (a `W`) before and now. It is a relation: one command may have several lawful
 -- outcomes, as those of each order in which workers take texts, of each script of a link, or of each status of a child.

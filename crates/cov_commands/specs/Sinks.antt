@@ -4,6 +4,7 @@ use Rattle.std.specs.Io.KnownBytes.{Appends}
 use Rattle.cov_io.specs.Causes.{Rose}
 use Rattle.cov_io.specs.Grows.{AppendsPart}
 use Rattle.cov_io.specs.Told.{WhereTold}
+use Rattle.json_pieces.specs.Pieces.{IsWithin, piece}
 use Rattle.cov_commands.specs.declared.ended.Ended.{Ended}
 use Rattle.cov_commands.specs.declared.ended.Ended.TheVariants.{WriteFault, NoMemory}
 use Rattle.cov_commands.specs.Ends.{IsFinished}
@@ -62,6 +63,7 @@ pub record Puts {O E : Type 0} (owed : Owed) (out_before out_now : SinkAt O)
   pub silent : (IsFinished owed.ended → ⊥) → owed.out ≡ []
       → (ended ≡ owed.ended) × (out_now ≡ out_before) × (err_now ≡ err_before)
   pub later : (out_before.faults ≤ out_now.faults) × (err_before.faults ≤ err_now.faults)
+  pub within : IsWithin piece out_before.longest out_now.longest
 
 -- The last line alone is put out, or the sink is not called where there is none.
 pub record LastLine {S : Type 0} (before now : SinkAt S) (line : List ℕ) : Type 0 where

@@ -1,4 +1,4 @@
--- What the commands owe that read folders and files alone.
+-- What the commands owe that read folders and files alone, or nothing.
 use Rattle.std.specs.Prelude.{◌≡◌, ◌⊎◌, ◌↔◌, ℕ, List, [], Option, unwrap_or}
 use Rattle.cov_io.specs.Causes.{Rose}
 use Rattle.cov_io.specs.Told.{Files, WhereTold, bytes_at}
@@ -8,13 +8,14 @@ use Rattle.cov_model.specs.declared.snapshot.Snapshot.{Snapshot}
 use Rattle.cov_model.specs.Files.{IsFileIn}
 use Rattle.cov_model.specs.Outcome.{accepted}
 use Rattle.cov_words.specs.declared.command.Command.{Command}
-use Rattle.cov_words.specs.declared.command.Command.TheVariants.{Merge, Same, Normal, Upgrade, Report, Check}
+use Rattle.cov_words.specs.declared.command.Command.TheVariants.{Merge, Same, Normal, Upgrade, Report, Check, Make}
 use Rattle.cov_words.specs.declared.command.Form.{Form}
 use Rattle.cov_commands.specs.declared.ended.Ended.{Ended}
 use Rattle.cov_commands.specs.declared.ended.Ended.TheVariants.{Done, Different, Below, SomeRefused}
 use Rattle.cov_commands.specs.Due.{merge_due, same_due, file_due, normal_word, normal_file, report_due, check_due, readings, DifferInSums, DifferInBytes, FolderIsMissing, FileIsMissing}
 use Rattle.cov_commands.specs.Counting.{CountsSkips}
 use Rattle.cov_commands.specs.Ends.{IsFinished}
+use Rattle.cov_commands.specs.Making.{make_duty}
 use Rattle.cov_commands.specs.Owed.{Owed, Duty, early}
 use Rattle.cov_commands.specs.Stores.{StoreAt, StillTells, Stopped}
 
@@ -131,6 +132,7 @@ duty_of (Normal path) = reading_duty (normal_reader path)
 duty_of (Upgrade path) = reading_duty (upgrade_reader path)
 duty_of (Report folder form) = reading_duty (report_reader form folder)
 duty_of (Check folder lines branches functions) = reading_duty (check_reader lines branches functions folder)
+duty_of (Make seed count) = make_duty seed count
 
 -- the same, where the count is that of the store for each
 abbrev pub tool_duty : {S : Type 0} → Command → Duty (StoreAt S)

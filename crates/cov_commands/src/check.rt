@@ -11,7 +11,7 @@ ghost use Rattle.cov_commands.specs.Stores.{store_at};
 ghost use Rattle.cov_commands.specs.Tool.{check_reader, reading_duty};
 
 use crate::Ended;
-use crate::due::Due;
+use crate::due::{Due, Output};
 use crate::ended::refused_or_done;
 use crate::reporting::report_folder;
 use cov_io::Store;
@@ -51,7 +51,7 @@ pub fn check<S: Store>(
         refused_or_done(found.refused)
     };
     Ok(Due {
-        out: Items::from_vec(missed.text),
+        out: Output::Bytes(Items::from_vec(missed.text)),
         err: found.lines,
         ended,
     })

@@ -105,7 +105,7 @@ fn put_out<S: Store, P: Spawner, O: Sink, E: Sink>(
         result }
 {
     match report_left(alloc, command, store, spawner) {
-        Ok(due) => put_due(out, err, &due),
+        Ok(due) => put_due(alloc, out, err, &due),
         Err(ended) => ended,
     }
 }

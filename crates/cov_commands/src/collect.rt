@@ -12,12 +12,11 @@ ghost use Rattle.cov_commands.specs.Stores.{StillTells, Stopped, store_at};
 ghost use Rattle.cov_commands.specs.Tool.{IsPlainEnd, reading_duty};
 
 use crate::Ended;
-use crate::due::Due;
+use crate::due::{Due, file_of};
 use crate::ended::refused_or_done;
 use crate::gather::{MOST, ended_by, is_json, path_of};
 use crate::lines::answer_line;
 use cov_collect::Collector;
-use cov_files::normal_text;
 use cov_io::{Gate, Store};
 use cov_model::{Answer, Items};
 use std::alloc::{AllocError, Global};
@@ -179,11 +178,11 @@ fn due_of<G: Gate + Sync, R: Threads + Wait + Sync>(
 {
     let Gathered { paths, texts } = gathered;
     let all = texts.finish(rt, alloc, workers, gate)?;
-    let out = normal_text(alloc, &all.book)?;
+    let out = file_of(alloc, &all.book)?;
     let err = lines_of(alloc, paths.as_slice(), all.answers.as_slice())?;
     let ended = refused_or_done(has_refusal(all.answers.as_slice()));
     Ok(Due {
-        out: Items::from_vec(out),
+        out,
         err: Items::from_vec(err),
         ended,
     })

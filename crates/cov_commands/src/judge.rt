@@ -5,21 +5,21 @@ ghost use Rattle.cov_files.specs.Normal.{TellsWhy};
 ghost use Rattle.cov_model.specs.declared.report.ListForm.{ListForm};
 ghost use Rattle.cov_model.specs.declared.snapshot.Snapshot.{Snapshot};
 ghost use Rattle.cov_commands.specs.Due.{accepted_due, file_answer, refused_due};
-ghost use Rattle.cov_commands.specs.Owed.{owed_of};
+ghost use Rattle.cov_commands.specs.Owed.{owed_of, text_of};
 
 use crate::Ended;
-use crate::due::Due;
+use crate::due::{Due, Output};
 use crate::lines::refused;
 use cov_files::NormalFault;
 use cov_model::Items;
 use std::alloc::{AllocError, Global};
 
 /// What is due for a file that is accepted, with this on the output.
-pub fn accepted_file(alloc: Global, out: Vec<u8>) -> Due
-    ensures { owed_of result ≡ accepted_due out.items }
+pub fn accepted_file(alloc: Global, out: Output) -> Due
+    ensures { owed_of result ≡ accepted_due (text_of out) }
 {
     Due {
-        out: Items::from_vec(out),
+        out,
         err: Items::new(alloc),
         ended: Ended::Done,
     }
@@ -43,7 +43,7 @@ fn refused_for(alloc: Global, path: &str, why: &[u8]) -> Result<Due, AllocError>
 {
     let line = refused(alloc, path, why)?;
     Ok(Due {
-        out: Items::new(alloc),
+        out: Output::Bytes(Items::new(alloc)),
         err: Items::from_vec(line),
         ended: Ended::SomeRefused,
     })

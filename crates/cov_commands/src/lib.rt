@@ -10,6 +10,7 @@ mod faults;
 mod gather;
 mod judge;
 mod lines;
+mod make;
 mod merge;
 mod normal;
 mod put;

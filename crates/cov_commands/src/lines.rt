@@ -1,27 +1,11 @@
 //! The lines of refused texts on the error sink.
 ghost use Rattle.std.specs.Prelude.{◌≡◌, IfOk, string_bytes};
-ghost use Rattle.cov_text.specs.Listing as listing;
 ghost use Rattle.cov_commands.specs.Lines as lines;
 
 use crate::faults::{point_text, text_fault_text};
+use clean_text::cleaned;
 use cov_model::{Answer, SumFault};
 use std::alloc::{AllocError, Global};
-
-// How a text stands in a line: each control character as `?`.
-fn cleaned(alloc: Global, text: &str) -> Result<Vec<u8>, AllocError>
-    ensures { IfOk result (λ shown. shown.items ≡ listing.cleaned text.now) }
-{
-    text.as_bytes()
-        .iter()
-        .map(|byte| {
-            if *byte < 32 || *byte == 127 {
-                b'?'
-            } else {
-                *byte
-            }
-        })
-        .collect(alloc)
-}
 
 // How the name of a function stands in a line.
 fn shown_name(alloc: Global, name: &str) -> Result<Vec<u8>, AllocError>

@@ -9,13 +9,11 @@ ghost use Rattle.cov_commands.specs.Stores.{store_at};
 ghost use Rattle.cov_commands.specs.Tool.{merge_reader, reading_duty};
 
 use crate::Ended;
-use crate::due::Due;
+use crate::due::{Due, file_of};
 use crate::ended::refused_or_done;
 use crate::gather::{Maps, gather};
 use cov_book::Book;
-use cov_files::normal_text;
 use cov_io::Store;
-use cov_model::Items;
 use std::alloc::Global;
 
 /// What `merge FOLDER` owes: reads the folder's texts in byte order of their names, and sums those that are snapshots
@@ -30,12 +28,12 @@ pub fn merge<S: Store>(alloc: Global, store: &mut S, folder: &str) -> Result<Due
         Ok(merged) => merged,
         Err(ended) => return Err(ended),
     };
-    let Ok(text) = normal_text(alloc, &book) else {
+    let Ok(out) = file_of(alloc, &book) else {
         return Err(Ended::NoMemory);
     };
     let ended = refused_or_done(merged.refused);
     Ok(Due {
-        out: Items::from_vec(text),
+        out,
         err: merged.lines,
         ended,
     })

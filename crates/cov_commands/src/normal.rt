@@ -10,11 +10,12 @@ ghost use Rattle.cov_commands.specs.Stores.{store_at};
 ghost use Rattle.cov_commands.specs.Tool.{normal_reader, reading_duty};
 
 use crate::Ended;
-use crate::due::Due;
+use crate::due::{Due, Output};
 use crate::gather::{MOST, ended_by};
 use crate::judge::{accepted_file, refused_file};
 use cov_files::read_normal;
 use cov_io::Store;
+use cov_model::Items;
 use std::alloc::{AllocError, Global};
 
 /// What `normal FILE` owes: reads the file, and says whether it is a normal file.
@@ -47,6 +48,6 @@ fn judged(alloc: Global, path: &str, bytes: &[u8]) -> Result<Due, AllocError>
 fn normal_word(alloc: Global) -> Result<Due, AllocError>
     ensures { IfOk result (λ due. owed_of due ≡ accepted_due (codes "normal\n")) }
 {
-    let word = Vec::from_slice(alloc, b"normal\n")?;
-    Ok(accepted_file(alloc, word))
+    let word = Items::from_slice(alloc, b"normal\n")?;
+    Ok(accepted_file(alloc, Output::Bytes(word)))
 }

@@ -11,7 +11,7 @@ ghost use Rattle.cov_commands.specs.Stores.{store_at};
 ghost use Rattle.cov_commands.specs.Tool.{report_reader, reading_duty};
 
 use crate::Ended;
-use crate::due::Due;
+use crate::due::{Due, Output};
 use crate::ended::refused_or_done;
 use crate::reporting::report_folder;
 use cov_io::Store;
@@ -43,7 +43,7 @@ pub fn report<S: Store>(
     };
     let ended = refused_or_done(found.refused);
     Ok(Due {
-        out: Items::from_vec(text),
+        out: Output::Bytes(Items::from_vec(text)),
         err: found.lines,
         ended,
     })

@@ -9,7 +9,7 @@ ghost use Rattle.cov_commands.specs.Stores.{store_at};
 ghost use Rattle.cov_commands.specs.Tool.{same_reader, reading_duty};
 
 use crate::Ended;
-use crate::due::Due;
+use crate::due::{Due, Output};
 use crate::ended::refused_or_done;
 use crate::gather::{Maps, Merged, gather};
 use cov_book::Book;
@@ -56,7 +56,7 @@ fn answered(alloc: Global, agree: bool, found: Merged, more: Merged) -> Result<D
         Ended::Different
     };
     Ok(Due {
-        out,
+        out: Output::Bytes(out),
         err: lines,
         ended,
     })

@@ -12,6 +12,7 @@ ghost use Rattle.cov_commands.specs.Tool.{tool_duty};
 use crate::Ended;
 use crate::check::check;
 use crate::due::Due;
+use crate::make::make;
 use crate::merge::merge;
 use crate::normal::normal;
 use crate::put::{put, put_due};
@@ -32,9 +33,10 @@ use std::alloc::Global;
 /// - `report FOLDER --as FORM` reads the texts as `merge` does, with what they say of the maps of their scripts, and writes the
 ///   coverage of the files behind them as `json` (coverage files of Istanbul), `lcov` or `text` (a table);
 /// - `check FOLDER --lines N --branches N --functions N` writes a line for each of these shares of that report that is below its
-///   percentage.
+///   percentage;
+/// - `make SEED COUNT` makes so many snapshots of a seed, takes each as `merge` takes a text, and writes a line of what they come to.
 ///
-/// Each writes a line for each refused text, or for the file that it refused, to `err`. The last two then write a line for each
+/// Each writes a line for each refused text, or for the file that it refused, to `err`. `report` and `check` then write a line for each
 /// script or source that the report leaves out.
 pub fn run_tool<S: Store, O: Sink, E: Sink>(
     alloc: Global,
@@ -150,12 +152,13 @@ fn run<S: Store, O: Sink, E: Sink>(
         result }
 {
     match look(alloc, command, store) {
-        Ok(due) => put_due(out, err, &due),
+        Ok(due) => put_due(alloc, out, err, &due),
         Err(ended) => ended,
     }
 }
 
 /// What the command owes, by what the store gives.
+#[tactic(auto, using(crate::proofs::Makes::gives_made_or_short))]
 fn look<S: Store>(alloc: Global, command: &Command, store: &mut S) -> Result<Due, Ended>
     requires { HasPercents command.now }
     ensures { Gives (tool_duty command.now)
@@ -181,5 +184,6 @@ fn look<S: Store>(alloc: Global, command: &Command, store: &mut S) -> Result<Due
             *branches,
             *functions,
         ),
+        Command::Make { seed, count } => make(alloc, *seed, *count),
     }
 }

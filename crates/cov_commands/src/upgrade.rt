@@ -13,11 +13,11 @@ ghost use Rattle.cov_commands.specs.Stores.{store_at};
 ghost use Rattle.cov_commands.specs.Tool.{upgrade_reader, reading_duty};
 
 use crate::Ended;
-use crate::due::Due;
+use crate::due::{Due, file_of};
 use crate::gather::{MOST, ended_by};
 use crate::judge::{accepted_file, refused_file};
 use cov_book::Book;
-use cov_files::{normal_text, read_flat};
+use cov_files::read_flat;
 use cov_io::Store;
 use std::alloc::{AllocError, Global};
 
@@ -51,6 +51,6 @@ fn judged(alloc: Global, path: &str, bytes: &[u8]) -> Result<Due, AllocError>
 fn normal_file(alloc: Global, book: &Book) -> Result<Due, AllocError>
     ensures { IfOk result (λ due. (held : List Snapshot) → StandsFor book.now held → owed_of due ≡ accepted_due (file held)) }
 {
-    let text = normal_text(alloc, book)?;
-    Ok(accepted_file(alloc, text))
+    let file = file_of(alloc, book)?;
+    Ok(accepted_file(alloc, file))
 }

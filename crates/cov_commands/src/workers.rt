@@ -104,7 +104,7 @@ fn put_out<S: Store, G: Gate + Sync, O: Sink, E: Sink, R: Threads + Wait + Sync>
         command.workers,
         gate,
     ) {
-        Ok(due) => put_due(out, err, &due),
+        Ok(due) => put_due(alloc, out, err, &due),
         Err(ended) => ended,
     }
 }
