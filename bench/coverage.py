@@ -9,13 +9,11 @@ Node.js reads it with JSON.parse. PROGRAM is a proved program that reads the fil
 stays in FILE. This is not part of the gate.
 """
 
-import argparse
 import json
-import shutil
-import subprocess
+import pathlib
 import sys
-import tempfile
-import time
+
+from shared import compare_text, reader_words
 
 PARSE = """
 const text = require('fs').readFileSync(process.argv[1], 'utf8');
@@ -62,41 +60,14 @@ def coverage_text(size):
     return "{" + ",".join(parts) + "}"
 
 
-def timed(command):
-    start = time.monotonic()
-    done = subprocess.run(command, capture_output=True, text=True, check=True)
-    return time.monotonic() - start, done.stdout
-
-
-def compare(path, reader):
-    """Times Node.js and the reader on one text, and prints both and their ratio."""
-    node = None
-    if shutil.which("node"):
-        node = float(timed(["node", "-e", PARSE, path])[1].split()[0])
-        print(f"coverage: JSON.parse alone {node:.3f} s")
-    if reader:
-        taken = timed([reader, path])[0]
-        print(f"coverage: reader, with its start and the file, {taken:.3f} s")
-        if node:
-            print(f"coverage: ratio {taken / node:.2f}")
-
-
 def main():
-    parser = argparse.ArgumentParser(description=__doc__, formatter_class=argparse.RawDescriptionHelpFormatter)
-    parser.add_argument("--bytes", type=int, default=50_000_000)
-    parser.add_argument("--reader")
-    parser.add_argument("--keep")
-    options = parser.parse_args()
-    text = coverage_text(options.bytes)
-    if options.keep:
-        with open(options.keep, "w") as file:
-            file.write(text)
-        compare(options.keep, options.reader)
-        return 0
-    with tempfile.NamedTemporaryFile("w", suffix=".json") as file:
-        file.write(text)
-        file.flush()
-        compare(file.name, options.reader)
+    words = reader_words(__doc__, 50_000_000)
+    words.add_argument("--keep", type=pathlib.Path)
+    given = words.parse_args()
+    text = coverage_text(given.bytes)
+    if given.keep:
+        given.keep.write_text(text)
+    compare_text("coverage", text, PARSE, [given.reader] if given.reader else [])
     return 0
 
 

@@ -8,20 +8,11 @@ Node.js reading and parsing the larger folder, in the same run.
 """
 
 import argparse
-import json
-import os
-import pathlib
-import subprocess
 import tempfile
 
-TOP = pathlib.Path(__file__).resolve().parent.parent
-PROGRAM = TOP / "crates" / "c8_command" / "out" / "c8_command"
-PARSE = (
-    "const fs=require('fs');const d=process.argv[1];"
-    "for(const f of fs.readdirSync(d)){JSON.parse(fs.readFileSync(d+'/'+f,'utf8'))}"
-)
+from shared import PARSE_FOLDER, PROGRAM, compact, put_texts, timed
+
 LIMIT = 2**64 - 1
-ROUNDS = 3
 
 
 def function(name: str, ranges: list[tuple[int, int, int]]) -> dict:
@@ -31,7 +22,7 @@ def function(name: str, ranges: list[tuple[int, int, int]]) -> dict:
 
 def text(scripts: dict[str, list[dict]]) -> str:
     made = [{"scriptId": "0", "url": url, "functions": fs} for url, fs in scripts.items()]
-    return json.dumps({"result": made}, separators=(",", ":"))
+    return compact({"result": made})
 
 
 def flat_functions(n: int, count: int) -> list[dict]:
@@ -65,25 +56,11 @@ KINDS = {
 }
 
 
-def timed(words: list[str]) -> float:
-    """The least processor seconds of some rounds."""
-    best = None
-    for _ in range(ROUNDS):
-        child = subprocess.Popen(words, stdout=subprocess.DEVNULL, stderr=subprocess.DEVNULL)
-        _, status, used = os.wait4(child.pid, 0)
-        seconds = used.ru_utime + used.ru_stime
-        if os.waitstatus_to_exitcode(status) not in (0, 3):
-            raise SystemExit(f"{words[0]} ended with {os.waitstatus_to_exitcode(status)}")
-        best = seconds if best is None else min(best, seconds)
-    return best
-
-
 def on_texts(texts: list[str]) -> tuple[float, float]:
     with tempfile.TemporaryDirectory() as name:
-        folder = pathlib.Path(name)
-        for number, content in enumerate(texts):
-            (folder / f"{number:05}.json").write_text(content)
-        return timed([str(PROGRAM), "merge", name]), timed(["node", "-e", PARSE, name])
+        put_texts(name, texts)
+        merge = timed([str(PROGRAM), "merge", name])
+        return merge.seconds, timed(["node", "-e", PARSE_FOLDER, name]).seconds
 
 
 def main() -> None:

@@ -9,15 +9,10 @@ JSON.parse. PROGRAM is a proved program that reads the file that is its second w
 none is given, only Node.js is timed. This is not part of the gate.
 """
 
-import argparse
 import json
-import shutil
-import subprocess
 import sys
-import tempfile
-import time
 
-DIGITS = "ABCDEFGHIJKLMNOPQRSTUVWXYZabcdefghijklmnopqrstuvwxyz0123456789+/"
+from shared import compare_text, reader_words, vlq
 
 SPLIT = """
 const text = require('fs').readFileSync(process.argv[1], 'utf8');
@@ -29,15 +24,6 @@ console.log(Number(taken) / 1e9, segments);
 """
 
 
-def value(step):
-    whole = 2 * step if step >= 0 else -2 * step + 1
-    text = ""
-    while whole >= 32:
-        text += DIGITS[32 + whole % 32]
-        whole //= 32
-    return text + DIGITS[whole]
-
-
 def mappings(size):
     """Lines of forty segments, every fifth with a name, as a bundler writes them."""
     lines, length, last_column, last_name = [], 0, 0, 0
@@ -46,10 +32,10 @@ def mappings(size):
         for k in range(40):
             column, name = 11 * k % 80, (8 * len(lines) + k) % 1000
             down = 1 if k == 0 and lines else 0
-            segment = value(3 + 7 * k % 60 if k else 0) + value(0) + value(down) + value(column - last_column)
+            segment = vlq(3 + 7 * k % 60 if k else 0) + vlq(0) + vlq(down) + vlq(column - last_column)
             last_column = column
             if k % 5 == 4:
-                segment += value(name - last_name)
+                segment += vlq(name - last_name)
                 last_name = name
             segments.append(segment)
         lines.append(",".join(segments))
@@ -79,33 +65,11 @@ def map_text(text):
     )
 
 
-def compare(kind, text, script, reader):
-    """Times Node.js and the reader on one text, and prints both and their ratio."""
-    with tempfile.NamedTemporaryFile("w", suffix=".txt") as file:
-        file.write(text)
-        file.flush()
-        node = None
-        if shutil.which("node"):
-            done = subprocess.run(["node", "-e", script, file.name], capture_output=True, text=True, check=True)
-            node = float(done.stdout.split()[0])
-            print(f"{kind}: node alone {node:.3f} s")
-        if reader:
-            start = time.monotonic()
-            subprocess.run([reader, kind, file.name], check=True, stdout=subprocess.DEVNULL)
-            taken = time.monotonic() - start
-            print(f"{kind}: reader, with its start and the file, {taken:.3f} s")
-            if node:
-                print(f"{kind}: ratio {taken / node:.2f}")
-
-
 def main():
-    parser = argparse.ArgumentParser(description=__doc__, formatter_class=argparse.RawDescriptionHelpFormatter)
-    parser.add_argument("--bytes", type=int, default=10_000_000)
-    parser.add_argument("--reader")
-    options = parser.parse_args()
-    text = mappings(options.bytes)
-    compare("mappings", text, SPLIT, options.reader)
-    compare("map", map_text(text), PARSE, options.reader)
+    given = reader_words(__doc__, 10_000_000).parse_args()
+    text = mappings(given.bytes)
+    for kind, made, script in [("mappings", text, SPLIT), ("map", map_text(text), PARSE)]:
+        compare_text(kind, made, script, [given.reader, kind] if given.reader else [])
     return 0
 
 

@@ -1,4 +1,5 @@
-"""Times `merge` on a folder of snapshots, beside Node.js reading and parsing the same files, and beside @bcoe/v8-coverage.
+"""Times `merge` and `collect` on a folder of snapshots, beside Node.js reading and parsing the same files, and beside
+@bcoe/v8-coverage.
 
 usage: python3 bench/merge.py [SNAPSHOTS] [FUNCTIONS]
        python3 bench/merge.py --folder FOLDER
@@ -6,28 +7,18 @@ usage: python3 bench/merge.py [SNAPSHOTS] [FUNCTIONS]
 The first form makes its snapshots, one script with functions of one range each. The second takes a folder that
 NODE_V8_COVERAGE wrote, and runs on the first half of its files as well, so that it shows how time grows. Run it by hand
 after `rt ci`, which leaves the program at crates/c8_command/out/c8_command. It prints processor times (so other work on the
-machine counts less), bytes per second, peak memory and ratios, and is no part of the gate.
+machine counts less), bytes per second, peak memory and ratios, and then the times of `collect` by the clock, which say
+something on a quiet machine alone. It is no part of the gate.
 """
 
 import argparse
-import json
-import os
 import pathlib
 import shutil
-import subprocess
 import tempfile
 
-TOP = pathlib.Path(__file__).resolve().parent.parent
-PROGRAM = TOP / "crates" / "c8_command" / "out" / "c8_command"
-PARSE = (
-    "const fs=require('fs');const d=process.argv[1];let n=0;"
-    "for(const f of fs.readdirSync(d)){n+=JSON.parse(fs.readFileSync(d+'/'+f,'utf8')).result.length}"
-    "console.log(n)"
-)
-PEER = TOP / "bench" / "merge_peer.cjs"
-# Where Debian's packages of Node.js put their modules.
-MODULES = os.environ.get("NODE_PATH", "/usr/share/nodejs")
-ROUNDS = 3
+from shared import PARSE_FOLDER, PEER, PROGRAM, Used, compact, has_peer, output_of, put_texts, timed
+
+WORKERS = (1, 2, 4)
 
 
 def snapshot(number: int, functions: int) -> dict:
@@ -43,49 +34,46 @@ def snapshot(number: int, functions: int) -> dict:
     return {"result": [{"scriptId": "1", "url": "file:///app/made.js", "functions": made}]}
 
 
-def timed(words: list[str]) -> tuple[float, int]:
-    """The least processor seconds of some rounds, and the peak memory of one in KiB."""
-    seconds, memory = [], 0
-    for _ in range(ROUNDS):
-        child = subprocess.Popen(words, stdout=subprocess.DEVNULL, env={**os.environ, "NODE_PATH": MODULES})
-        _, status, used = os.wait4(child.pid, 0)
-        seconds.append(used.ru_utime + used.ru_stime)
-        memory = max(memory, used.ru_maxrss)
-        if status != 0:
-            raise SystemExit(f"{words[0]} ended with {os.waitstatus_to_exitcode(status)}")
-    return min(seconds), memory
-
-
 def compare(folder: pathlib.Path) -> float:
-    """Prints both times on a folder, and gives ours."""
+    """Prints the times on a folder, and gives the processor seconds of `merge`."""
     sizes = [file.stat().st_size for file in folder.iterdir()]
     size = sum(sizes)
-    ours, memory = timed([str(PROGRAM), "merge", str(folder)])
-    theirs, _ = timed(["node", "-e", PARSE, str(folder)])
+    ours = timed([str(PROGRAM), "merge", str(folder)])
+    node = timed(["node", "-e", PARSE_FOLDER, str(folder)])
     print(f"{len(sizes)} files, {size} bytes, the largest of {max(sizes)}")
-    print(f"merge    {ours:8.3f} s  {size / ours / 1e6:8.2f} MB/s  peak {memory / 1024:.1f} MiB")
-    print(f"         {memory * 1024 / max(sizes):8.2f} bytes of peak memory for each byte of the largest text")
-    print(f"node     {theirs:8.3f} s  {size / theirs / 1e6:8.2f} MB/s  (start, read and JSON.parse)")
-    print(f"ratio    {ours / theirs:8.2f}")
-    if has_peer():
-        peer, room = timed(["node", str(PEER), str(folder)])
-        print(f"peer     {peer:8.3f} s  {size / peer / 1e6:8.2f} MB/s  peak {room / 1024:.1f} MiB  (@bcoe/v8-coverage)")
-        print(f"ratio    {ours / peer:8.2f}  of its time, {memory / room:.2f} of its memory")
-    return ours
+    print(f"merge    {ours.seconds:8.3f} s  {size / ours.seconds / 1e6:8.2f} MB/s  peak {ours.memory / 1024:.1f} MiB")
+    print(f"         {ours.memory * 1024 / max(sizes):8.2f} bytes of peak memory for each byte of the largest text")
+    print(f"node     {node.seconds:8.3f} s  {size / node.seconds / 1e6:8.2f} MB/s  (start, read and JSON.parse)")
+    print(f"ratio    {ours.seconds / node.seconds:8.2f}")
+    peer = timed(["node", str(PEER), str(folder)]) if has_peer() else None
+    if peer:
+        rate = size / peer.seconds / 1e6
+        print(f"peer     {peer.seconds:8.3f} s  {rate:8.2f} MB/s  peak {peer.memory / 1024:.1f} MiB  (@bcoe/v8-coverage)")
+        print(f"ratio    {ours.seconds / peer.seconds:8.2f}  of its time, {ours.memory / peer.memory:.2f} of its memory")
+    compare_walls(folder, ours, peer)
+    return ours.seconds
 
 
-def has_peer() -> bool:
-    words = ["node", "-e", "require.resolve('@bcoe/v8-coverage')"]
-    return subprocess.run(words, env={**os.environ, "NODE_PATH": MODULES}, capture_output=True).returncode == 0
+def compare_walls(folder: pathlib.Path, merge: Used, peer: Used | None) -> None:
+    """Prints the times of `collect` by the clock, beside those of `merge` and of the peer. Its bytes have to be those of `merge`."""
+    print(f"by the clock: merge {merge.wall:.3f} s" + (f", peer {peer.wall:.3f} s" if peer else ""))
+    wanted = output_of([str(PROGRAM), "merge", str(folder)])
+    for workers in WORKERS:
+        words = [str(PROGRAM), "collect", str(folder), "--workers", str(workers)]
+        taken = timed(words)
+        beside = f", {taken.wall / peer.wall:.3f} of the peer's" if peer else ""
+        print(
+            f"collect --workers {workers}: {taken.wall:.3f} s, {taken.wall / merge.wall:.2f} of merge's{beside},"
+            f" processor {taken.seconds:.3f} s, peak {taken.memory / 1024:.1f} MiB"
+        )
+        if output_of(words) != wanted:
+            raise SystemExit("collect wrote other bytes than merge")
 
 
 def on_made(snapshots: int, functions: int) -> None:
     with tempfile.TemporaryDirectory() as name:
-        folder = pathlib.Path(name)
-        for number in range(snapshots):
-            text = json.dumps(snapshot(number, functions), separators=(",", ":"))
-            (folder / f"{number:04}.json").write_text(text)
-        compare(folder)
+        put_texts(name, [compact(snapshot(number, functions)) for number in range(snapshots)])
+        compare(pathlib.Path(name))
 
 
 def on_folder(folder: pathlib.Path) -> None:

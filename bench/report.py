@@ -11,32 +11,12 @@ difference. The second takes a folder that NODE_V8_COVERAGE wrote, and runs `mer
 
 import argparse
 import json
-import os
 import pathlib
-import subprocess
 import tempfile
 
-TOP = pathlib.Path(__file__).resolve().parent.parent
-PROGRAM = TOP / "crates" / "c8_command" / "out" / "c8_command"
-PARSE = (
-    "const fs=require('fs');const d=process.argv[1];let n=0;"
-    "for(const f of fs.readdirSync(d)){n+=JSON.parse(fs.readFileSync(d+'/'+f,'utf8')).result.length}"
-    "console.log(n)"
-)
-ROUNDS = 3
+from shared import PARSE_FOLDER, PROGRAM, put_texts, timed, vlq
+
 CALL = "called();"
-DIGITS = "ABCDEFGHIJKLMNOPQRSTUVWXYZabcdefghijklmnopqrstuvwxyz0123456789+/"
-
-
-def vlq(number: int) -> str:
-    """A number of a mapping, base 64 VLQ."""
-    left = -2 * number + 1 if number < 0 else 2 * number
-    digits = ""
-    while True:
-        digits += DIGITS[left % 32 + (32 if left >= 32 else 0)]
-        left //= 32
-        if left == 0:
-            return digits
 
 
 def mappings(lines: int, sources: int, segments: int) -> str:
@@ -91,25 +71,12 @@ KINDS = {
 }
 
 
-def timed(words: list[str]) -> float:
-    """The least processor seconds of some rounds."""
-    best = None
-    for _ in range(ROUNDS):
-        child = subprocess.Popen(words, stdout=subprocess.DEVNULL, stderr=subprocess.DEVNULL)
-        _, status, used = os.wait4(child.pid, 0)
-        seconds = used.ru_utime + used.ru_stime
-        if os.waitstatus_to_exitcode(status) not in (0, 3):
-            raise SystemExit(f"{words[0]} ended with {os.waitstatus_to_exitcode(status)}")
-        best = seconds if best is None else min(best, seconds)
-    return best
-
-
 def on_texts(program: pathlib.Path, texts: list[str]) -> tuple[float, float]:
     """The times of `report` and of `merge` on a folder of these texts."""
     with tempfile.TemporaryDirectory() as folder:
-        for k, text in enumerate(texts):
-            (pathlib.Path(folder) / f"{k:04}.json").write_text(text)
-        return timed([str(program), "report", folder, "--as", "lcov"]), timed([str(program), "merge", folder])
+        put_texts(folder, texts)
+        report = timed([str(program), "report", folder, "--as", "lcov"])
+        return report.seconds, timed([str(program), "merge", folder]).seconds
 
 
 def on_made(program: pathlib.Path, only: str | None) -> None:
@@ -127,9 +94,9 @@ def on_made(program: pathlib.Path, only: str | None) -> None:
 
 def on_folder(program: pathlib.Path, folder: pathlib.Path) -> None:
     size = sum(file.stat().st_size for file in folder.iterdir())
-    merge = timed([str(program), "merge", str(folder)])
-    report = timed([str(program), "report", str(folder), "--as", "lcov"])
-    node = timed(["node", "-e", PARSE, str(folder)])
+    merge = timed([str(program), "merge", str(folder)]).seconds
+    report = timed([str(program), "report", str(folder), "--as", "lcov"]).seconds
+    node = timed(["node", "-e", PARSE_FOLDER, str(folder)]).seconds
     print(f"{len(list(folder.iterdir()))} files, {size} bytes")
     print(f"merge    {merge:8.3f} s")
     print(f"report   {report:8.3f} s  {report / merge:8.2f} times merge")
