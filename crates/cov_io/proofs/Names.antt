@@ -2,29 +2,13 @@
 use Rattle.std.proofs.Common.{◌≡◌, ◌≢◌, ℕ, ◌<◌, true, false, List, [], ◌∷◌, ◌++◌, length, refl, sym, ap, ◌∙◌, subst, inl, inr}
 use Rattle.std.specs.Prelude.{Option, None, Some, cond, filter_map, slice_index_or, option_and_then, unwrap_or, eqb}
 use Rattle.std.specs.List.{AllByRecursion, cons_option}
-use Rattle.std.specs.declared.cmp.Ordering.{Ordering}
-use Rattle.std.specs.declared.cmp.Ordering.TheVariants.{Less, Equal, Greater}
-use Rattle.std.specs.Ordering.{match_ordering}
 use Rattle.std.specs.Cmp.Lexicographic.{bytes_decides}
 use Rattle.std.proofs.lemmas.Bool.{cases_Bool, eq-eqb, eqb-true}
 use Rattle.std.proofs.lemmas.List.Elements.{All-from_recursion}
-use Rattle.cov_text.specs.Listing.{same_text, text_cmp, inserted}
-use Rattle.std.specs.BTreeSet.{insert_key}
+use Rattle.cov_text.specs.Listing.{same_text, text_cmp}
+use Rattle.cov_text.proofs.Each.{All-inserted}
 use Rattle.std.proofs.lemmas.List.{append_assoc}
 use Rattle.cov_io.specs.Told.{Files, bytes_at, path_in, behind_front, has_slash, name_in, names_in}
-
-insert_key-All : {A : Type 0} (P : A → Type 0) (cmp : A → A → Ordering) (ys : List A) (x : A) → P x → AllByRecursion P ys → AllByRecursion P (insert_key cmp ys x)
-insert_key-All P cmp [] x p all = (p, tt)
-insert_key-All P cmp (y ∷ ys) x p all =
-    elim (cmp x y) as (λ o. AllByRecursion P (match_ordering o (x ∷ y ∷ ys) (y ∷ ys) (y ∷ insert_key cmp ys x))) [
-      | Less ↦ (p, all)
-      | Equal ↦ all
-      | Greater ↦ (all.0, insert_key-All P cmp ys x p all.1)
-    ]
-
-inserted-All : {A : Type 0} (P : A → Type 0) (cmp : A → A → Ordering) (keys xs : List A) → AllByRecursion P keys → AllByRecursion P xs → AllByRecursion P (inserted cmp keys xs)
-inserted-All P cmp keys [] had all = had
-inserted-All P cmp keys (x ∷ xs) had all = inserted-All P cmp (insert_key cmp keys x) xs (insert_key-All P cmp keys x all.0 had) all.1
 
 -- there is a file at the path
 abbrev pub HasFile : Files → List ℕ → Type 0
@@ -93,7 +77,7 @@ module _ (folder : List ℕ) (files : Files) where
   all_named (f ∷ rest) all = one_named f.0 (filter_map (λ g. name_in folder g.0) rest) all.0 (all_named rest all.1)
 
 pub names_in-HasFile : (folder : List ℕ) (files : Files) → AllByRecursion (λ name. HasFile files (path_in folder name)) (names_in folder files)
-names_in-HasFile folder files = inserted-All (λ name. HasFile files (path_in folder name)) text_cmp [] (filter_map (λ f. name_in folder f.0) files) tt (all_named folder files files (all_there files))
+names_in-HasFile folder files = All-inserted (λ name. HasFile files (path_in folder name)) text_cmp (filter_map (λ f. name_in folder f.0) files) [] tt (all_named folder files files (all_there files))
 
 -- the same at a place
 pub name-HasFile : (folder : List ℕ) (files : Files) (k : ℕ) (d : List ℕ) → k < length (names_in folder files) → HasFile files (path_in folder (slice_index_or (names_in folder files) k d))

@@ -1,5 +1,5 @@
 -- What a link and a net tell, and what their calls do to it.
-use Rattle.std.specs.Prelude.{◌≡◌, ◌+◌, ◌-◌, ◌^◌, ℕ, min, Bool, true, false, not, ◌==◌, if◌then◌else◌, List, [], Option, Some, string_bytes, Result, Ok, Err, OnOk, OnErr}
+use Rattle.std.specs.Prelude.{◌≡◌, ◌+◌, ◌-◌, ◌^◌, ℕ, min, Bool, true, false, if◌then◌else◌, List, [], Option, Some, string_bytes, Result, Ok, Err, OnOk, OnErr}
 use Rattle.cov_io.specs.Told.{WhereTold}
 use Rattle.cov_io.specs.Lists.{ending_with, beginning_with, Adds, Takes}
 use Rattle.cov_io.specs.declared.link.Got.{Got}

@@ -1,6 +1,6 @@
 -- The text of scripts is read as these scripts, or not at all.
-use Rattle.std.proofs.Common.{◌≡◌, ℕ, suc, ◌<◌, ◌≤◌, ◌^◌, Bool, true, false, cond, List, [], ◌∷◌, length, Some, None, codes, refl, sym, ap, ◌∙◌, arith, append-nil, lt-ltb}
-use Rattle.std.specs.Prelude.{Option, option_map, option_and_then, Result, Ok, Err, nat_lt, max}
+use Rattle.std.proofs.Common.{◌≡◌, ℕ, suc, ◌<◌, ◌≤◌, ◌^◌, Bool, true, false, cond, List, [], ◌∷◌, length, Some, None, refl, sym, ap, ◌∙◌, arith, append-nil, lt-ltb}
+use Rattle.std.specs.Prelude.{Option, option_and_then, Result, Ok, Err, nat_lt}
 use Rattle.std.specs.List.{AllByRecursion}
 use Rattle.std.proofs.Math.Nat.{max-le}
 use Rattle.std.specs.Str.{is_utf8}
@@ -10,16 +10,15 @@ use Rattle.json.specs.Json as json
 use Rattle.json.specs.Tree as tree
 use Rattle.json.proofs.Printed.Tokens.{tokens-print}
 use Rattle.json.proofs.Printed.Trees.{value-json_tokens, ArePrintable-json_tokens}
-use Rattle.serde_json.specs.Data.{Data, unsigned, number, Items}
-use Rattle.serde_json.specs.Read.{number_of, of_json, of_items, max_depth, read}
+use Rattle.serde_json.specs.Data.{Data, unsigned, number}
+use Rattle.serde_json.specs.Read.{of_json, of_items, max_depth, read}
 use Rattle.serde_json.specs.Written.{outline, items_outline, compact_text}
 use Rattle.serde_json.proofs.Texts.{print-outline}
 use Rattle.serde_json.proofs.Numbers.{number_of-decimal}
 use Rattle.cov_text.specs.Listing.{max_text}
-use Rattle.json_shapes.specs.Shapes.{◌>>=◌, or_fault, offset_of, parsed, array_of}
+use Rattle.json_shapes.specs.Shapes.{◌>>=◌, or_fault, offset_of, array_of}
 use Rattle.cov_model.specs.declared.report.Range.{Range}
 use Rattle.cov_model.specs.declared.report.FunctionReport.{FunctionReport}
-use Rattle.cov_model.specs.declared.report.RangeFault.{RangeFault}
 use Rattle.cov_model.specs.declared.snapshot.Entry.{Entry}
 use Rattle.cov_model.specs.declared.snapshot.Snapshot.{Snapshot}
 use Rattle.cov_model.specs.declared.snapshot.Place.{Place}

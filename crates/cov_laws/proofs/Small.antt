@@ -1,20 +1,17 @@
 -- The numbers in the scripts of a list that fits are below 2^64.
-use Rattle.std.proofs.Common.{◌≡◌, ℕ, zero, suc, ◌+◌, ◌-◌, ◌<◌, ◌≤◌, ◌^◌, Bool, true, false, List, [], ◌∷◌, ◌++◌, map, refl, sym, subst, arith, inl, inr}
-use Rattle.std.specs.Prelude.{option_map, cond, nat_le, ◌&&◌, filter, filter_map, flat_map}
+use Rattle.std.proofs.Common.{◌≡◌, ℕ, zero, suc, ◌+◌, ◌-◌, ◌<◌, ◌≤◌, ◌^◌, true, List, [], ◌∷◌, map, sym, subst, arith, inl, inr}
+use Rattle.std.specs.Prelude.{option_map, nat_le, filter, filter_map, flat_map}
 use Rattle.std.specs.List.{AllByRecursion, list_all, cons_option}
-use Rattle.std.specs.declared.cmp.Ordering.{Ordering}
-use Rattle.std.specs.declared.cmp.Ordering.TheVariants.{Less, Equal, Greater}
-use Rattle.std.specs.Ordering.{match_ordering}
-use Rattle.std.specs.BTreeSet.{insert_key}
-use Rattle.std.proofs.lemmas.Bool.{cases_lt, leb-true}
+use Rattle.std.proofs.lemmas.Bool.{cases_lt, leb-true, and_parts}
 use Rattle.cov_model.specs.declared.report.Range.{Range}
 use Rattle.cov_model.specs.declared.report.FunctionReport.{FunctionReport}
 use Rattle.cov_model.specs.declared.snapshot.Entry.{Entry}
 use Rattle.cov_model.specs.declared.snapshot.Snapshot.{Snapshot}
 use Rattle.cov_model.specs.declared.sums.Key.{Key}
 use Rattle.cov_model.specs.declared.sums.At.TheVariants.{Offset}
-use Rattle.cov_text.specs.Listing.{first_of, inserted, counted, offsets, same_text}
+use Rattle.cov_text.specs.Listing.{first_of, counted, offsets, same_text}
 use Rattle.cov_text.specs.Listing.{limit}
+use Rattle.cov_text.proofs.Each.{All-filter, All-map, All-append, All-flat_map, All-every, All-inserted}
 use Rattle.cov_model.specs.Sums.{fits, sum_at, root, total, keys, keys_in_order, urls_in_order, file_order, key_of}
 use Rattle.cov_model.specs.Nested.{nest, nested}
 use Rattle.cov_model.specs.File.{merged_report, merged_entry, scripts, scripts_in}
@@ -24,45 +21,6 @@ use Rattle.cov_normal.specs.Nests.Nests.{plain, child}
 use Rattle.cov_normal.proofs.Nests.{nests}
 use Rattle.cov_laws.specs.Laws.{HasOffsets}
 use Rattle.cov_laws.proofs.Written.{IsSmall, AreSmall, HasSmall, HasAllSmall}
-
--- ---- what holds of each element
-
-All-filter : {A : Type 0} (P : A → Type 0) (p : A → Bool) (xs : List A) → AllByRecursion P xs → AllByRecursion P (filter p xs)
-All-filter P p [] h = tt
-All-filter P p (x ∷ xs) h =
-    elim (p x) as (λ b. AllByRecursion P (cond b (x ∷ filter p xs) (filter p xs))) [
-      | true ↦ (h.0, All-filter P p xs h.1)
-      | false ↦ All-filter P p xs h.1
-    ]
-
-All-made : {A B : Type 0} (P : A → Type 0) (Q : B → Type 0) (f : A → B) → ((x : A) → P x → Q (f x)) → (xs : List A) → AllByRecursion P xs → AllByRecursion Q (map f xs)
-All-made P Q f each [] h = tt
-All-made P Q f each (x ∷ xs) h = (each x h.0, All-made P Q f each xs h.1)
-
-All-append : {A : Type 0} (P : A → Type 0) (xs ys : List A) → AllByRecursion P xs → AllByRecursion P ys → AllByRecursion P (xs ++ ys)
-All-append P [] ys h k = k
-All-append P (x ∷ xs) ys h k = (h.0, All-append P xs ys h.1 k)
-
-All-joined : {A B : Type 0} (P : A → Type 0) (Q : B → Type 0) (g : A → List B) → ((x : A) → P x → AllByRecursion Q (g x)) → (xs : List A) → AllByRecursion P xs → AllByRecursion Q (flat_map g xs)
-All-joined P Q g each [] h = tt
-All-joined P Q g each (x ∷ xs) h = All-append Q (g x) (flat_map g xs) (each x h.0) (All-joined P Q g each xs h.1)
-
-All-every : {A : Type 0} (P : A → Type 0) → ((x : A) → P x) → (xs : List A) → AllByRecursion P xs
-All-every P each [] = tt
-All-every P each (x ∷ xs) = (each x, All-every P each xs)
-
-All-insert : {A : Type 0} (P : A → Type 0) (cmp : A → A → Ordering) (xs : List A) (x : A) → AllByRecursion P xs → P x → AllByRecursion P (insert_key cmp xs x)
-All-insert P cmp [] x h p = (p, tt)
-All-insert P cmp (y ∷ ys) x h p =
-    elim (cmp x y) as (λ o. AllByRecursion P (match_ordering o (x ∷ y ∷ ys) (y ∷ ys) (y ∷ insert_key cmp ys x))) [
-      | Less ↦ (p, h)
-      | Equal ↦ h
-      | Greater ↦ (h.0, All-insert P cmp ys x h.1 p)
-    ]
-
-All-inserted : {A : Type 0} (P : A → Type 0) (cmp : A → A → Ordering) (xs known : List A) → AllByRecursion P known → AllByRecursion P xs → AllByRecursion P (inserted cmp known xs)
-All-inserted P cmp [] known k h = k
-All-inserted P cmp (x ∷ xs) known k h = All-inserted P cmp xs (insert_key cmp known x) (All-insert P cmp known x k h.0) h.1
 
 -- ---- the ranges of a nested list
 
@@ -86,17 +44,13 @@ small-nested start end count f h k c each = (record { start = h; end = k; count 
 
 -- ---- sums
 
-both-true : (a b : Bool) → (a && b) ≡ true → (a ≡ true) × (b ≡ true)
-both-true true b e = (refl, e)
-both-true false b e = absurd cc
-
 below : (n : ℕ) → nat_le n limit ≡ true → n < 2 ^ 64
 below n e = let h = leb-true n limit e in omega arith
 
 each-total : (held : List Snapshot) (key : Key) (n s : ℕ) → list_all (λ at. nat_le (sum_at held key at) limit) (map Offset (counted s n)) ≡ true → (o : ℕ) → s ≤ o → o < s + n → total held key o < 2 ^ 64
 each-total held key zero s e o low high = absurd (omega arith)
 each-total held key (suc n) s e o low high =
-    let p = both-true (nat_le (total held key s) limit) (list_all (λ at. nat_le (sum_at held key at) limit) (map Offset (counted (suc s) n))) e in
+    let p = and_parts (nat_le (total held key s) limit) (list_all (λ at. nat_le (sum_at held key at) limit) (map Offset (counted (suc s) n))) e in
     elim (cases_lt s o) [
       | inl past ↦ each-total held key n (suc s) p.1 o (omega arith) (omega arith)
       | inr first ↦ let here : s ≡ o = omega arith in subst (λ at. total held key at < 2 ^ 64) here (below (total held key s) p.0)
@@ -108,7 +62,7 @@ IsInRange key = (key.start < 2 ^ 32) × (key.end < 2 ^ 32)
 
 small-report : (held : List Snapshot) → fits held ≡ true → (key : Key) → IsInRange key → HasSmall (merged_report held key)
 small-report held fit key within =
-    let p = both-true (nat_le (root held key) limit) (list_all (λ at. nat_le (sum_at held key at) limit) (map Offset (offsets key.start key.end))) (fits-each held fit key) in
+    let p = and_parts (nat_le (root held key) limit) (list_all (λ at. nat_le (sum_at held key at) limit) (map Offset (offsets key.start key.end))) (fits-each held fit key) in
     small-nested key.start key.end (root held key) (total held key) (omega arith) (omega arith) (below (root held key) p.0)
     (λ o low high. each-total held key (key.end - key.start) key.start p.1 o low (omega arith))
 
@@ -135,15 +89,15 @@ IsEntryInRange e = AllByRecursion IsReportInRange e.functions
 keys-in-range : (held : List Snapshot) → HasOffsets held → AllByRecursion IsInRange (keys_in_order held)
 keys-in-range held h =
     All-inserted IsInRange file_order (keys held) [] tt
-    (All-joined (λ (s : Snapshot). AllByRecursion IsEntryInRange s) IsInRange (λ (s : Snapshot). flat_map (λ (e : Entry). filter_map (key_of e.url) e.functions) s)
-    (λ s each. All-joined IsEntryInRange IsInRange (λ (e : Entry). filter_map (key_of e.url) e.functions) (λ e fs. keys-of-script e.url e.functions fs) s each)
+    (All-flat_map (λ (s : Snapshot). AllByRecursion IsEntryInRange s) IsInRange (λ (s : Snapshot). flat_map (λ (e : Entry). filter_map (key_of e.url) e.functions) s)
+    (λ s each. All-flat_map IsEntryInRange IsInRange (λ (e : Entry). filter_map (key_of e.url) e.functions) (λ e fs. keys-of-script e.url e.functions fs) s each)
     held h)
 
 pub small-scripts : (held : List Snapshot) → fits held ≡ true → HasOffsets held → AllByRecursion HasAllSmall (scripts held)
 unfolding scripts_in
 small-scripts held fit h =
-    All-made (λ (url : List ℕ). Unit {0}) HasAllSmall (merged_entry held)
+    All-map (λ (url : List ℕ). Unit {0}) HasAllSmall (merged_entry held)
     (λ url t.
-    All-made IsInRange HasSmall (merged_report held) (small-report held fit) (filter (λ (key : Key). same_text key.url url) (keys_in_order held))
+    All-map IsInRange HasSmall (merged_report held) (small-report held fit) (filter (λ (key : Key). same_text key.url url) (keys_in_order held))
     (All-filter IsInRange (λ (key : Key). same_text key.url url) (keys_in_order held) (keys-in-range held h)))
     (urls_in_order held) (All-every (λ (url : List ℕ). Unit {0}) (λ url. tt) (urls_in_order held))

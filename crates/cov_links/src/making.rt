@@ -1,5 +1,5 @@
 //! Making links, by dialling and by listening.
-ghost use Rattle.std.specs.Prelude.{◌≡◌, [], IfOk, IfErr, OnOk, length};
+ghost use Rattle.std.specs.Prelude.{◌≡◌, [], IfOk, IfErr, length};
 ghost use Rattle.cov_io.specs.declared.link.LinkFault.TheVariants.{Failed};
 ghost use Rattle.cov_links.specs.Together.{Made, Unmade, Returned, ending_with_all, net_at, telling};
 

@@ -12,6 +12,8 @@ use Rattle.std.proofs.lemmas.List.Folds.{list_all-append, list_all-map, list_any
 use Rattle.std.proofs.lemmas.List.Sums.{sum_by-append}
 use Rattle.std.proofs.lemmas.Map.Text.{is_eq-slice_cmp}
 use Rattle.std.proofs.lemmas.Slice.Eq.{bytes_eq-Decides}
+use Rattle.std.proofs.lemmas.Bool.{and_parts, or_parts}
+use Rattle.std.proofs.Math.Bool.{and-true}
 use Rattle.cov_model.specs.declared.report.FunctionReport.{FunctionReport}
 use Rattle.cov_model.specs.declared.snapshot.Entry.{Entry}
 use Rattle.cov_model.specs.declared.snapshot.Snapshot.{Snapshot}
@@ -19,6 +21,7 @@ use Rattle.cov_model.specs.declared.sums.Key.{Key}
 use Rattle.cov_model.specs.declared.sums.At.{At}
 use Rattle.cov_model.specs.declared.sums.At.TheVariants.{Root, Offset}
 use Rattle.cov_text.specs.Listing.{text_cmp, same_text, inserted}
+use Rattle.cov_text.proofs.Bools.{all-more, swap-and}
 use Rattle.cov_model.specs.Nesting.{inner_count}
 use Rattle.cov_text.specs.Listing.{limit}
 use Rattle.cov_model.specs.Sums.{fits, sum_at, points, keys, keys_in_order, file_order, key_of, same_key, is_of, reports, root, total, root_count}
@@ -33,20 +36,6 @@ all-flat_map q g (x ∷ xs) = list_all-append q (g x) (flat_map g xs) ∙ ap (λ
 any-flat_map : {A B : Type 0} (q : B → Bool) (g : A → List B) (xs : List A) → list_any q (flat_map g xs) ≡ list_any (λ x. list_any q (g x)) xs
 any-flat_map q g [] = refl
 any-flat_map q g (x ∷ xs) = list_any-append q (g x) (flat_map g xs) ∙ ap (λ b. list_any q (g x) || b) (any-flat_map q g xs)
-
-and-both : (a b : Bool) → (a && b) ≡ true → (a ≡ true) × (b ≡ true)
-and-both true b e = (refl, e)
-and-both false b e = absurd cc
-
-or-none : (a b : Bool) → (a || b) ≡ false → (a ≡ false) × (b ≡ false)
-or-none true b e = absurd cc
-or-none false b e = (refl, e)
-
-all-more : {A : Type 0} (p q : A → Bool) → ((x : A) → p x ≡ true → q x ≡ true) → (xs : List A) → list_all p xs ≡ true → list_all q xs ≡ true
-all-more p q h [] e = refl
-all-more p q h (x ∷ xs) e =
-    let both = and-both (p x) (list_all p xs) e in
-    ap (λ b. b && list_all q xs) (h x both.0) ∙ all-more p q h xs both.1
 
 -- ---- a set in order has the same elements
 
@@ -71,11 +60,6 @@ order-equal a b e =
     let end = sym (nat-equal b.end a.end r.0) in
     let name = text-equal a.name b.name r.1 in
     (λ i. record { url = url i; start = start i; end = end i; name = name i })
-
-swap-and : (a b c : Bool) → (a && (b && c)) ≡ (b && (a && c))
-swap-and true b c = refl
-swap-and false true c = refl
-swap-and false false c = refl
 
 again-and : (a b : Bool) → (a && b) ≡ (a && (a && b))
 again-and true b = refl
@@ -103,10 +87,6 @@ all-inserted p ks (x ∷ xs) =
     assoc-and : (a b c : Bool) → (a && (b && c)) ≡ ((a && b) && c)
     assoc-and true b c = refl
     assoc-and false b c = refl
-
-and-true : (a : Bool) → (a && true) ≡ a
-and-true true = refl
-and-true false = refl
 
 -- ---- what fits, fits at each key
 
@@ -141,7 +121,7 @@ none-step : (key : Key) (o : Option Key) (f : FunctionReport) (rest : List Funct
     → cond (unwrap_or (option_map (same_key key) o) false) (f ∷ rest) rest ≡ []
 none-step key None f rest others e h = h e
 none-step key (Some k) f rest others e h =
-    let p = or-none (same_key key k) (list_any (same_key key) others) e in
+    let p = or_parts (same_key key k) (list_any (same_key key) others) e in
     ap (λ b. cond b (f ∷ rest) rest) p.0 ∙ h p.1
 
 none-filter : (key : Key) (url : List ℕ) (fs : List FunctionReport) → list_any (same_key key) (filter_map (key_of url) fs) ≡ false → filter (is_of key url) fs ≡ []
@@ -152,7 +132,7 @@ none-flat : {A B C : Type 0} (q : B → Bool) (g : A → List B) (h : A → List
     → (xs : List A) → list_any q (flat_map g xs) ≡ false → flat_map h xs ≡ []
 none-flat q g h each [] e = refl
 none-flat q g h each (x ∷ xs) e =
-    let p = or-none (list_any q (g x)) (list_any q (flat_map g xs)) (sym (list_any-append q (g x) (flat_map g xs)) ∙ e) in
+    let p = or_parts (list_any q (g x)) (list_any q (flat_map g xs)) (sym (list_any-append q (g x) (flat_map g xs)) ∙ e) in
     ap (λ ys. ys ++ flat_map h xs) (each x p.0) ∙ none-flat q g h each xs p.1
 
 no-reports : (held : List Snapshot) (key : Key) → list_any (same_key key) (keys held) ≡ false → reports held key ≡ []
@@ -174,9 +154,9 @@ all-true p h (x ∷ xs) = ap (λ b. b && list_all p xs) (h x) ∙ all-true p h x
 
 same-is : (a b : Key) → same_key a b ≡ true → a ≡ b
 same-is a b e =
-    let p = and-both (same_text a.url b.url) (a.start == b.start && (a.end == b.end && same_text a.name b.name)) e in
-    let q = and-both (a.start == b.start) (a.end == b.end && same_text a.name b.name) p.1 in
-    let r = and-both (a.end == b.end) (same_text a.name b.name) q.1 in
+    let p = and_parts (same_text a.url b.url) (a.start == b.start && (a.end == b.end && same_text a.name b.name)) e in
+    let q = and_parts (a.start == b.start) (a.end == b.end && same_text a.name b.name) p.1 in
+    let r = and_parts (a.end == b.end) (same_text a.name b.name) q.1 in
     let url = (bytes_eq-Decides a.url b.url).0 p.0 in
     let start : a.start ≡ b.start = (Decides-eqb a.start b.start).0 q.0 in
     let end : a.end ≡ b.end = (Decides-eqb a.end b.end).0 r.0 in
@@ -190,7 +170,7 @@ member-step p key x rest false is h e more = more e
 member : (p : Key → Bool) (key : Key) (ks : List Key) → list_all p ks ≡ true → list_any (same_key key) ks ≡ true → p key ≡ true
 member p key [] h e = absurd cc
 member p key (x ∷ xs) h e =
-    let both = and-both (p x) (list_all p xs) h in
+    let both = and_parts (p x) (list_all p xs) h in
     member-step p key x (list_any (same_key key) xs) (same_key key x) refl both.0 e (member p key xs both.1)
 
 zero-within : (held : List Snapshot) (key : Key) → ((at : At) → sum_at held key at ≡ 0) → is_within_limit held key ≡ true

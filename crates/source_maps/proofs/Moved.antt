@@ -5,6 +5,7 @@ use Rattle.std.specs.List.{list_all}
 use Rattle.std.proofs.lemmas.List.Folds.{list_all-append}
 use Rattle.std.proofs.lemmas.Bool.Decides.{nat_tests}
 use Rattle.std.proofs.Math.Seq.{drop-cons}
+use Rattle.std.proofs.lemmas.Bool.{and_parts}
 use Rattle.serde_json.specs.View.{view, items_view}
 use Rattle.serde_json.specs.declared.value.Value.{Value}
 use Rattle.vlq_mappings.specs.declared.Origin.{Origin}
@@ -51,27 +52,23 @@ map_same (x ∷ xs) = ap (λ (l : List _). x ∷ l) (map_same xs)
 
 -- ---- numbers of a segment that is moved
 
-both : (a b : Bool) → (a && b) ≡ true → (a ≡ true) × (b ≡ true)
-both true b e = (refl, e)
-both false b e = cc
-
 origin_near : (sources names : ℕ) (o : Option Origin) → origin_is_near o ≡ true → indexes_stay_near (option_map (moved_origin sources names) o) ≡ true
     → origin_is_near (option_map (moved_origin sources names) o) ≡ true
 origin_near sources names None near stays = refl
 origin_near sources names (Some o) near stays =
-    let rest = (both (nat_le o.source most) (nat_le o.line most && (nat_le o.column most && name_is_near o.name)) near).1 in
-    let line = both (nat_le o.line most) (nat_le o.column most && name_is_near o.name) rest in
-    let column = both (nat_le o.column most) (name_is_near o.name) line.1 in
-    let indexes = both (nat_le (sources + o.source) most) (name_is_near (option_map (λ n. names + n) o.name)) stays in
+    let rest = (and_parts (nat_le o.source most) (nat_le o.line most && (nat_le o.column most && name_is_near o.name)) near).1 in
+    let line = and_parts (nat_le o.line most) (nat_le o.column most && name_is_near o.name) rest in
+    let column = and_parts (nat_le o.column most) (name_is_near o.name) line.1 in
+    let indexes = and_parts (nat_le (sources + o.source) most) (name_is_near (option_map (λ n. names + n) o.name)) stays in
     λ i. indexes.0 i && (line.0 i && (column.0 i && indexes.1 i))
 
 moved_near : (start : Start) (sources names : ℕ) (s : MapSegment) → is_near s ≡ true → stays_near (moved start sources names s) ≡ true → is_near (moved start sources names s) ≡ true
 moved_near start sources names s near stays =
     let to = moved start sources names s in
-    let was = both (nat_le s.line most) (nat_le s.column most && origin_is_near s.origin) near in
-    let was_origin = (both (nat_le s.column most) (origin_is_near s.origin) was.1).1 in
-    let line = both (nat_le to.line most) (nat_le to.column most && indexes_stay_near to.origin) stays in
-    let column = both (nat_le to.column most) (indexes_stay_near to.origin) line.1 in
+    let was = and_parts (nat_le s.line most) (nat_le s.column most && origin_is_near s.origin) near in
+    let was_origin = (and_parts (nat_le s.column most) (origin_is_near s.origin) was.1).1 in
+    let line = and_parts (nat_le to.line most) (nat_le to.column most && indexes_stay_near to.origin) stays in
+    let column = and_parts (nat_le to.column most) (indexes_stay_near to.origin) line.1 in
     let origin = origin_near sources names s.origin was_origin column.1 in
     λ i. line.0 i && (column.0 i && origin i)
 
@@ -94,7 +91,7 @@ name_below names n (Some k) e = below_by names k n e
 origin_below : (sources names n m : ℕ) (o : Option Origin) → origin_is_below n m o ≡ true → origin_is_below (sources + n) (names + m) (option_map (moved_origin sources names) o) ≡ true
 origin_below sources names n m None e = refl
 origin_below sources names n m (Some o) e =
-    let parts = both (nat_lt o.source n) (name_is_below m o.name) e in
+    let parts = and_parts (nat_lt o.source n) (name_is_below m o.name) e in
     λ i. below_by sources o.source n parts.0 i && name_below names m o.name parts.1 i
 
 pub moved_all_below : (start : Start) (sources names n m : ℕ) (segments : List MapSegment) → list_all (is_below n m) segments ≡ true
@@ -109,7 +106,7 @@ name_wider n m (Some k) le e = below_wider k n m le e
 origin_wider : (n m n2 m2 : ℕ) (o : Option Origin) → n ≤ n2 → m ≤ m2 → origin_is_below n m o ≡ true → origin_is_below n2 m2 o ≡ true
 origin_wider n m n2 m2 None le le2 e = refl
 origin_wider n m n2 m2 (Some o) le le2 e =
-    let parts = both (nat_lt o.source n) (name_is_below m o.name) e in
+    let parts = and_parts (nat_lt o.source n) (name_is_below m o.name) e in
     λ i. below_wider o.source n n2 le parts.0 i && name_wider m m2 o.name le2 parts.1 i
 
 all_wider : (n m n2 m2 : ℕ) (segments : List MapSegment) → n ≤ n2 → m ≤ m2 → list_all (is_below n m) segments ≡ true → list_all (is_below n2 m2) segments ≡ true

@@ -6,7 +6,7 @@ use Rattle.std.proofs.Math.Seq.{drop-cons}
 use Rattle.std.proofs.lemmas.List.{drop_all}
 use Rattle.std.proofs.lemmas.List.Folds.{list_all-append}
 use Rattle.std.proofs.lemmas.Iterator.Adapters.{position_from-zero}
-use Rattle.std.proofs.lemmas.Bool.{le-leb}
+use Rattle.std.proofs.lemmas.Bool.{le-leb, and_parts}
 use Rattle.vlq_mappings.specs.declared.Segment.{Segment}
 use Rattle.vlq_mappings.specs.declared.VlqFault.{VlqFault}
 use Rattle.vlq_mappings.specs.Kept.{most, is_near as segment_is_near}
@@ -62,14 +62,10 @@ near_line line (s ∷ segments) le all =
       | false ↦ λ h. cc
     ] all
 
-both : (a b : Bool) → (a && b) ≡ true → (a ≡ true) × (b ≡ true)
-both true b e = (refl, e)
-both false b e = cc
-
 pub near_located : (k : ℕ) (lines : List (List Segment)) → k + length lines ≤ suc most → list_all (list_all segment_is_near) lines ≡ true → list_all is_near (located k lines) ≡ true
 near_located k [] le all = refl
 near_located k (segments ∷ lines) le all =
-    let parts = both (list_all segment_is_near segments) (list_all (list_all segment_is_near) lines) all in
+    let parts = and_parts (list_all segment_is_near segments) (list_all (list_all segment_is_near) lines) all in
     let here = near_line k segments (omega arith) parts.0 in
     let rest = near_located (suc k) lines (omega arith) parts.1 in
     list_all-append is_near (map (on_line k) segments) (located (suc k) lines) ∙ (λ i. here i && list_all is_near (located (suc k) lines)) ∙ rest

@@ -1,23 +1,20 @@
 -- Line ends make lines of a list of units in one way only.
-use Rattle.std.proofs.Common.{◌≡◌, ◌≢◌, ℕ, ◌+◌, Bool, true, false, not, ◌&&◌, List, [], ◌∷◌, ◌++◌, length, refl, sym, ap, ap₂, ◌∙◌, subst, subst₂, inl, inr, append_assoc, append-nil, ◌⊎◌}
+use Rattle.std.proofs.Common.{◌≡◌, ◌≢◌, ℕ, ◌+◌, true, false, not, ◌&&◌, List, [], ◌∷◌, ◌++◌, length, refl, sym, ap, ap₂, ◌∙◌, subst, subst₂, inl, inr, append_assoc, append-nil, ◌⊎◌}
 use Rattle.std.specs.Prelude.{Some, ◌==◌}
 use Rattle.std.proofs.lemmas.List.{same_from_push}
 use Rattle.std.proofs.lemmas.List.Folds.{list_all-append}
+use Rattle.std.proofs.lemmas.Bool.{and_parts}
 use Rattle.cov_text.specs.Listing.{last_of}
 use Rattle.utf16_lines.specs.declared.Span.{Span}
 use Rattle.utf16_lines.specs.Lines.{span}
 use Rattle.utf16_lines.specs.Cutting.{has_no_lf, BeginsWith, AreLinesOf, OneWayToCut}
 use Rattle.utf16_lines.proofs.Cut.{last_of-push}
 
-both : (a b : Bool) → (a && b) ≡ true → (a ≡ true) × (b ≡ true)
-both true b e = (refl, e)
-both false b e = cc
-
 head_is_lf : (y : ℕ) (m : List ℕ) → has_no_lf (y ∷ m) ≡ true → y ≡ 10 → ⊥
 head_is_lf y m q e = let at_lf : false ≡ true = subst (λ n. (not (n == 10) && has_no_lf m) ≡ true) e q in cc
 
 tail_has_none : (y : ℕ) (m : List ℕ) → has_no_lf (y ∷ m) ≡ true → has_no_lf m ≡ true
-tail_has_none y m q = (both (not (y == 10)) (has_no_lf m) q).1
+tail_has_none y m q = (and_parts (not (y == 10)) (has_no_lf m) q).1
 
 -- the units before the first LF, and those behind it
 lf_split : (l m r t : List ℕ) → has_no_lf l ≡ true → has_no_lf m ≡ true → l ++ 10 ∷ r ≡ m ++ 10 ∷ t → (l ≡ m) × (r ≡ t)

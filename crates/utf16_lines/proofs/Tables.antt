@@ -2,16 +2,12 @@
 use Rattle.std.proofs.Common.{◌≡◌, ℕ, zero, suc, ◌+◌, ◌-◌, ◌<◌, ◌≤◌, Bool, true, false, cond, ◌&&◌, List, [], ◌∷◌, length, refl, sym, ap, ◌∙◌, subst, arith, inl, inr}
 use Rattle.std.specs.Prelude.{sum, Some, slice_get, get_or, nat_le, ◌==◌}
 use Rattle.std.specs.List.Sorted.{IsNonDecreasingBy}
-use Rattle.std.proofs.lemmas.Bool.{cases_lt, cases_Bool, leb-true, le-leb}
+use Rattle.std.proofs.lemmas.Bool.{cases_lt, cases_Bool, leb-true, le-leb, and_parts}
 use Rattle.std.proofs.lemmas.Option.{same_Some, slice_get-get_or}
 use Rattle.std.proofs.lemmas.List.Sums.{sum_by-cons}
 use Rattle.utf16_lines.specs.declared.Span.{Span}
 use Rattle.utf16_lines.specs.Table.{are_lines, begins_with_text}
 use Rattle.utf16_lines.specs.Lines.{span, spans_from, lines_of_lengths}
-
-both : (a b : Bool) → (a && b) ≡ true → (a ≡ true) × (b ≡ true)
-both true b e = (refl, e)
-both false b e = cc
 
 all_four : (a b c d : Bool) → a ≡ true → b ≡ true → c ≡ true → d ≡ true → (a && (b && (c && d))) ≡ true
 all_four a b c d p q r s = (λ i. p i && (q i && (r i && s i)))
@@ -25,9 +21,9 @@ record Heads (least units : ℕ) (s : Span) (spans : List Span) : Type 0 where
 
 heads : (least units : ℕ) (s : Span) (spans : List Span) → are_lines least units (s ∷ spans) ≡ true → Heads least units s spans
 heads least units s spans e =
-    let a = both (nat_le least s.start) _ e in
-    let b = both (nat_le s.start s.end) _ a.1 in
-    let c = both (nat_le s.end units) _ b.1 in
+    let a = and_parts (nat_le least s.start) _ e in
+    let b = and_parts (nat_le s.start s.end) _ a.1 in
+    let c = and_parts (nat_le s.end units) _ b.1 in
     record { behind = leb-true least s.start a.0; order = leb-true s.start s.end b.0; within = leb-true s.end units c.0; rest = c.1 }
 
 cons-are_lines : (least units : ℕ) (s : Span) (spans : List Span) → least ≤ s.start → s.start ≤ s.end → s.end ≤ units → are_lines (s.end + 1) units spans ≡ true

@@ -1,10 +1,10 @@
 -- What is written is spelled so.
-use Rattle.std.proofs.Common.{◌≡◌, ℕ, zero, suc, ◌+◌, ◌*◌, ◌-◌, ◌/◌, ◌%◌, ◌<◌, ◌≤◌, ◌^◌, Bool, true, false, ◌&&◌, cond, List, [], ◌∷◌, ◌++◌, length, refl, sym, ap, subst, ◌∙◌, inl, inr, arith}
+use Rattle.std.proofs.Common.{◌≡◌, ℕ, zero, suc, ◌+◌, ◌*◌, ◌-◌, ◌/◌, ◌%◌, ◌<◌, ◌≤◌, ◌^◌, Bool, true, false, cond, List, [], ◌∷◌, ◌++◌, length, refl, sym, ap, subst, ◌∙◌, inl, inr, arith}
 use Rattle.std.specs.Prelude.{Option, None, Some, nat_le}
 use Rattle.std.specs.List.{join_with_byte, slice_split, onto_first, list_all}
 use Rattle.std.proofs.Math.Nat.{pow-suc}
 use Rattle.std.proofs.lemmas.List.{append-nil}
-use Rattle.std.proofs.lemmas.Bool.{cases_lt, lt-ltb, le-ltb, leb-true}
+use Rattle.std.proofs.lemmas.Bool.{cases_lt, lt-ltb, le-ltb, leb-true, and_parts}
 use Rattle.std.proofs.lemmas.Bool.Decides.{nat_tests}
 use Rattle.vlq_mappings.specs.declared.Origin.{Origin}
 use Rattle.vlq_mappings.specs.declared.Segment.{Segment}
@@ -177,10 +177,6 @@ lines_apart last (line ∷ lines) = (
 
 -- ---- lines
 
-all_of : (a b : Bool) → (a && b) ≡ true → (a ≡ true) × (b ≡ true)
-all_of true b e = (refl, e)
-all_of false b e = cc
-
 near_name : (n : Option ℕ) → name_is_near n ≡ true → AllNear (name_numbers n)
 near_name None e = tt
 near_name (Some n) e = (leb-true n most e, tt)
@@ -188,13 +184,13 @@ near_name (Some n) e = (leb-true n most e, tt)
 near_origin : (o : Option Origin) → origin_is_near o ≡ true → AllNear (origin_numbers o)
 near_origin None e = tt
 near_origin (Some o) e =
-    let a = all_of (nat_le o.source most) _ e in
-    let b = all_of (nat_le o.line most) _ a.1 in
-    let d = all_of (nat_le o.column most) _ b.1 in
+    let a = and_parts (nat_le o.source most) _ e in
+    let b = and_parts (nat_le o.line most) _ a.1 in
+    let d = and_parts (nat_le o.column most) _ b.1 in
     (leb-true o.source most a.0, (leb-true o.line most b.0, (leb-true o.column most d.0, near_name o.name d.1)))
 
 near_numbers : (s : Segment) → is_near s ≡ true → AllNear (numbers s)
-near_numbers s e = let a = all_of (nat_le s.column most) (origin_is_near s.origin) e in (leb-true s.column most a.0, near_origin s.origin a.1)
+near_numbers s e = let a = and_parts (nat_le s.column most) (origin_is_near s.origin) e in (leb-true s.column most a.0, near_origin s.origin a.1)
 
 no_front : (front back : List ℕ) → [] ≡ front ++ back → {last n : ℕ} → Leads last front n → ⊥
 no_front [] back e h = elim h.3 [ inl up ↦ absurd up.0 | inr down ↦ absurd down.0 ]
@@ -213,7 +209,7 @@ pub record LineBack (last : Last) (line : List Segment) : Type 0 where
 line_back : (last : Last) (line : List Segment) → AllNear (last_numbers last) → list_all is_near line ≡ true → LineBack last line
 line_back last [] old e = record { spells = tt; near = old }
 line_back last (s ∷ segments) old e =
-    let a = all_of (is_near s) (list_all is_near segments) e in
+    let a = and_parts (is_near s) (list_all is_near segments) e in
     let new = near_numbers s a.0 in
     let rest = line_back (behind last s) segments (near_behind last s.column s.origin old new) a.1 in
     record { spells = piece_with last (segment_text last s) (segment_texts (behind last s) segments) s segments (segment_leads last s old new) rest.spells; near = rest.near }
@@ -226,7 +222,7 @@ cut_line last (s ∷ segments) h =
 lines_back : (last : Last) (lines : List (List Segment)) → AllNear (last_numbers last) → list_all (list_all is_near) lines ≡ true → SpellsLines last (line_texts last lines) lines
 lines_back last [] old e = tt
 lines_back last (line ∷ lines) old e =
-    let a = all_of (list_all is_near line) (list_all (list_all is_near) lines) e in
+    let a = and_parts (list_all is_near line) (list_all (list_all is_near) lines) e in
     let this = line_back last line old a.0 in
     let next : AllNear (last_numbers (next_line (behind_line last line))) = (omega arith, this.near.1) in
     (cut_line last line this.spells, lines_back (next_line (behind_line last line)) lines next a.1)

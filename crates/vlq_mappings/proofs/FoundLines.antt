@@ -1,8 +1,8 @@
 -- What is read is spelled so, line by line, and passes no bound.
-use Rattle.std.proofs.Common.{◌≡◌, ℕ, ◌+◌, ◌≤◌, Bool, true, ◌&&◌, List, [], ◌∷◌, length, refl, sym, ap, subst, ◌∙◌, arith}
+use Rattle.std.proofs.Common.{◌≡◌, ℕ, ◌+◌, ◌≤◌, true, List, [], ◌∷◌, length, refl, sym, ap, subst, ◌∙◌, arith}
 use Rattle.std.specs.Prelude.{Option, None, Some, Ok, nat_le}
 use Rattle.std.specs.List.{slice_split, list_all}
-use Rattle.std.proofs.lemmas.Bool.{le-leb}
+use Rattle.std.proofs.lemmas.Bool.{le-leb, and_from}
 use Rattle.vlq_mappings.specs.declared.Origin.{Origin}
 use Rattle.vlq_mappings.specs.declared.Segment.{Segment}
 use Rattle.vlq_mappings.specs.declared.last.Last.{Last}
@@ -34,17 +34,14 @@ near_name : (n : Option ℕ) → AllNear (name_numbers n) → name_is_near n ≡
 near_name None h = refl
 near_name (Some n) h = le-leb n most h.0
 
-pub both : (a b : Bool) → a ≡ true → b ≡ true → (a && b) ≡ true
-both a b x y = rw (x, y) refl
-
 near_origin : (o : Option Origin) → AllNear (origin_numbers o) → origin_is_near o ≡ true
 near_origin None h = refl
 near_origin (Some o) h =
-    both (nat_le o.source most) _ (le-leb o.source most h.0)
-    (both (nat_le o.line most) _ (le-leb o.line most h.1.0) (both (nat_le o.column most) _ (le-leb o.column most h.1.1.0) (near_name o.name h.1.1.1)))
+    and_from (nat_le o.source most) _ (le-leb o.source most h.0)
+    (and_from (nat_le o.line most) _ (le-leb o.line most h.1.0) (and_from (nat_le o.column most) _ (le-leb o.column most h.1.1.0) (near_name o.name h.1.1.1)))
 
 near_segment : (s : Segment) → AllNear (numbers s) → is_near s ≡ true
-near_segment s h = both (nat_le s.column most) (origin_is_near s.origin) (le-leb s.column most h.0) (near_origin s.origin h.1)
+near_segment s h = and_from (nat_le s.column most) (origin_is_near s.origin) (le-leb s.column most h.0) (near_origin s.origin h.1)
 
 -- ---- segments
 
@@ -88,7 +85,7 @@ line_with last b bs pieces s rest x found others e =
       spells = (found.spells, subst (λ (l : Last). SpellsLine l pieces rest.0) found.then others.spells);
       then = others.then ∙ ap (λ l. behind_line l rest.0) found.then;
       near = others.near;
-      kept = both (is_near s.0) (list_all is_near rest.0) found.kept others.kept;
+      kept = and_from (is_near s.0) (list_all is_near rest.0) found.kept others.kept;
     })
 
 pub line_found : (place : ℕ) (last : Last) (pieces : List (List ℕ)) (x : List Segment × Last) → AllNear (last_numbers last) → segments_at place last pieces ≡ Ok x → LineFound last pieces x
@@ -124,5 +121,5 @@ lines_found place last (text ∷ texts) lines old e =
     subst (LinesFound last (text ∷ texts)) same
     (record {
       spells = (found.spells, subst (λ (l : Last). SpellsLines (next_line l) texts r.value) found.then others.spells);
-      kept = both (list_all is_near a.value.0) (list_all (list_all is_near) r.value) found.kept others.kept;
+      kept = and_from (list_all is_near a.value.0) (list_all (list_all is_near) r.value) found.kept others.kept;
     })

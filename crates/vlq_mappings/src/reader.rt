@@ -1,5 +1,5 @@
 //! Reading a text of mappings.
-ghost use Rattle.std.specs.Prelude.{List, ◌≡◌, ◌+◌, ◌≤◌, ◌∷◌, [], Ok, Err, length, IfOk, IfErr};
+ghost use Rattle.std.specs.Prelude.{List, ◌≡◌, ◌+◌, ◌≤◌, Ok, length, IfOk, IfErr};
 ghost use Rattle.cov_text.specs.Listing.{max_text};
 ghost use Rattle.vlq_mappings.specs.declared.Segment.{Segment};
 ghost use Rattle.vlq_mappings.specs.FirstFault.{IsFirstFault};

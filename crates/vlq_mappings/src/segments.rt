@@ -1,11 +1,11 @@
 //! Segments: one value, four or five, each the difference from the last number of its kind.
-ghost use Rattle.std.specs.Prelude.{ℕ, ◌≡◌, ◌+◌, ◌<◌, ◌≤◌, ◌∷◌, [], true, false, is_ok, Ok, Err, length, MatchResult, IfOk, Some};
+ghost use Rattle.std.specs.Prelude.{ℕ, ◌≡◌, ◌+◌, ◌<◌, ◌≤◌, ◌∷◌, true, false, is_ok, Ok, Err, length, MatchResult, IfOk, Some};
 ghost use Rattle.cov_text.specs.Listing.{max_text};
 ghost use Rattle.vlq_mappings.specs.Faults.{goes_on};
 ghost use Rattle.vlq_mappings.specs.declared.last.Last.{Last};
 ghost use Rattle.vlq_mappings.specs.declared.values.Value.{Value};
 ghost use Rattle.vlq_mappings.specs.Fields.{field_values, origin_values, name_values, moved_name};
-ghost use Rattle.vlq_mappings.specs.Pieces.{piece_at, is_end, near_values, with_value};
+ghost use Rattle.vlq_mappings.specs.Pieces.{piece_at, is_end, near_values};
 ghost use Rattle.vlq_mappings.specs.Mappings.{moved, segment_of, segment_at};
 
 use crate::last::Last;

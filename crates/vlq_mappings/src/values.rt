@@ -1,5 +1,5 @@
 //! Values in base64 VLQ: runs of digits of five bits each, the least first.
-ghost use Rattle.std.specs.Prelude.{◌≡◌, ◌+◌, ◌<◌, ◌≤◌, ◌∷◌, Ok, Err, false, length, MatchResult, IfOk};
+ghost use Rattle.std.specs.Prelude.{◌≡◌, ◌+◌, ◌<◌, ◌≤◌, Ok, Err, false, length, MatchResult, IfOk};
 ghost use Rattle.cov_text.specs.Listing.{max_text};
 ghost use Rattle.vlq_mappings.specs.Faults.{goes_on};
 ghost use Rattle.vlq_mappings.specs.Pieces.{piece_at, is_end, near_values, with_value};

@@ -1,4 +1,4 @@
-use Rattle.std.proofs.Common.{◌≡◌, ◌+◌, ◌≤◌, [], ◌∷◌, ◌++◌, length, take, ap, Err, ◌∙◌, subst₂, arith, sym}
+use Rattle.std.proofs.Common.{◌≡◌, ◌+◌, [], ◌∷◌, ◌++◌, length, take, ap, Err, ◌∙◌, subst₂, arith, sym}
 use Rattle.std.proofs.lemmas.Result.{err_from_is_err_and}
 use Rattle.cov_links.specs.Together.{Made, net_at, telling}
 use Rattle.cov_links.proofs.Steps.{none_unmade, not_made, tried_next, take_next, one_made}
