@@ -2,7 +2,7 @@
 use Rattle.std.proofs.Common.{◌≡◌, ℕ, suc, ◌<◌, ◌≤◌, Bool, true, false, List, [], ◌∷◌, ◌++◌, refl, sym, ap, ◌∙◌, subst, arith, inl, inr, length}
 use Rattle.std.specs.Prelude.{◌↔◌, cond, ◌&&◌, not, nat_le, nat_lt, filter, None, Some, unwrap_or}
 use Rattle.std.specs.List.{list_all}
-use Rattle.std.proofs.lemmas.Bool.{cases_lt}
+use Rattle.std.proofs.lemmas.Bool.{cases_lt, and_parts, and_from}
 use Rattle.std.proofs.lemmas.Bool.Decides.{nat_tests}
 use Rattle.std.proofs.lemmas.List.Folds.{list_all-append}
 use Rattle.std.proofs.lemmas.List.Sorted.{IsPermutation-refl}
@@ -11,8 +11,9 @@ use Rattle.cov_model.specs.Nesting.{has_offset, crosses, each_pair, is_within, i
 use Rattle.cov_model.specs.Normal.{range, each_next, maximal_runs}
 use Rattle.cov_model.specs.Nested.{nest, nested}
 use Rattle.cov_ranges.proofs.Nested.{faultless_where_nested}
-use Rattle.cov_steps.specs.Walking.{precedes, last_count}
-use Rattle.cov_steps.proofs.Checks.{and-both, both-and, all-more}
+use Rattle.cov_text.proofs.Bools.{all-more}
+use Rattle.cov_ranges.specs.Order.{precedes}
+use Rattle.cov_steps.specs.Walking.{last_count}
 use Rattle.cov_steps.proofs.Maximal.{count_in-maximal}
 use Rattle.cov_steps.proofs.Rooted.{first-ordered}
 use Rattle.cov_steps.proofs.Sorted.{inner-sorted}
@@ -50,8 +51,8 @@ nests-lie f s e c xs (child _ _ _ a b p inside behind _ h i k is) =
     let within = all-more (lies a (suc p)) (lies s e) (λ r l. lies-wider s e a (suc p) r low (omega arith) l) inside (nests-lie f a (suc p) (f a) inside i) in
     let after = all-more (lies (suc p) e) (lies s e) (λ r l. lies-wider s e (suc p) e r (omega arith) (omega arith) l) behind (nests-lie f (suc p) e c behind k) in
     ap (list_all (lies s e)) is
-    ∙ both-and (lies s e (range a (suc p) (f a))) (list_all (lies s e) (inside ++ behind)) (lies-first s e a p (f a) low up high)
-    (list_all-append (lies s e) inside behind ∙ both-and (list_all (lies s e) inside) (list_all (lies s e) behind) within after)
+    ∙ and_from (lies s e (range a (suc p) (f a))) (list_all (lies s e) (inside ++ behind)) (lies-first s e a p (f a) low up high)
+    (list_all-append (lies s e) inside behind ∙ and_from (list_all (lies s e) inside) (list_all (lies s e) behind) within after)
 
 -- ---- how two of them lie
 
@@ -69,9 +70,9 @@ pairs-append : {A : Type 0} (t : A → A → Bool) (xs ys : List A) → each_pai
     → each_pair t (xs ++ ys) ≡ true
 pairs-append t [] ys ex ey all = ey
 pairs-append t (x ∷ xs) ys ex ey all =
-    let both = and-both (list_all (t x) xs) (each_pair t xs) ex in
-    let each = and-both (list_all (t x) ys) (list_all (λ x. list_all (t x) ys) xs) all in
-    both-and (list_all (t x) (xs ++ ys)) (each_pair t (xs ++ ys)) (list_all-append (t x) xs ys ∙ both-and (list_all (t x) xs) (list_all (t x) ys) both.0 each.0)
+    let both = and_parts (list_all (t x) xs) (each_pair t xs) ex in
+    let each = and_parts (list_all (t x) ys) (list_all (λ x. list_all (t x) ys) xs) all in
+    and_from (list_all (t x) (xs ++ ys)) (each_pair t (xs ++ ys)) (list_all-append (t x) xs ys ∙ and_from (list_all (t x) xs) (list_all (t x) ys) both.0 each.0)
     (pairs-append t xs ys both.1 ey each.1)
 
 pub nests-pairs : (f : ℕ → ℕ) (s e c : ℕ) (xs : List Range) → Nests f s e c xs → each_pair stands xs ≡ true
@@ -87,8 +88,8 @@ nests-pairs f s e c xs (child _ _ _ a b p inside behind _ h i k is) =
     let first-behind = all-more (lies (suc p) e) (stands one) (λ r l. stands-behind a (suc p) e one r itself l) behind lie-behind in
     let across = all-more (lies a (suc p)) (λ x. list_all (stands x) behind) (λ x lx. all-more (lies (suc p) e) (stands x) (λ r l. stands-behind a (suc p) e x r lx l) behind lie-behind) inside lie-inside in
     ap (each_pair stands) is
-    ∙ both-and (list_all (stands one) (inside ++ behind)) (each_pair stands (inside ++ behind))
-    (list_all-append (stands one) inside behind ∙ both-and (list_all (stands one) inside) (list_all (stands one) behind) first-in first-behind)
+    ∙ and_from (list_all (stands one) (inside ++ behind)) (each_pair stands (inside ++ behind))
+    (list_all-append (stands one) inside behind ∙ and_from (list_all (stands one) inside) (list_all (stands one) behind) first-in first-behind)
     (pairs-append stands inside behind (nests-pairs f a (suc p) (f a) inside i) (nests-pairs f (suc p) e c behind k) across)
 
 -- ---- the last that has an offset
@@ -111,7 +112,7 @@ out-above s e o r le l = grind (arith, nat_tests)
 told-none : (d o : ℕ) (p : Range → Bool) (xs : List Range) → ((r : Range) → p r ≡ true → has_offset o r ≡ false) → list_all p xs ≡ true → told_at d o xs ≡ d
 told-none d o p [] out all = refl
 told-none d o p (x ∷ xs) out all =
-    let both = and-both (p x) (list_all p xs) all in
+    let both = and_parts (p x) (list_all p xs) all in
     ap (λ b. told_at (cond b x.count d) o xs) (out x both.0) ∙ told-none d o p xs out both.1
 
 has-first : (o a p k : ℕ) → a ≤ o → o < suc p → has_offset o (range a (suc p) k) ≡ true
@@ -167,18 +168,18 @@ next-from-pairs : (test : Range → Range → Bool) (xs : List Range) → each_p
 next-from-pairs test [] e = refl
 next-from-pairs test (x ∷ []) e = refl
 next-from-pairs test (x ∷ y ∷ xs) e =
-    let both = and-both (list_all (test x) (y ∷ xs)) (each_pair test (y ∷ xs)) e in
-    both-and (test x y) (each_next test (y ∷ xs)) (and-both (test x y) (list_all (test x) xs) both.0).0 (next-from-pairs test (y ∷ xs) both.1)
+    let both = and_parts (list_all (test x) (y ∷ xs)) (each_pair test (y ∷ xs)) e in
+    and_from (test x y) (each_next test (y ∷ xs)) (and_parts (test x y) (list_all (test x) xs) both.0).0 (next-from-pairs test (y ∷ xs) both.1)
 
 pairs-more : (p q : Range → Range → Bool) → ((a b : Range) → p a b ≡ true → q a b ≡ true) → (xs : List Range) → each_pair p xs ≡ true → each_pair q xs ≡ true
 pairs-more p q h [] e = refl
 pairs-more p q h (x ∷ xs) e =
-    let both = and-both (list_all (p x) xs) (each_pair p xs) e in
-    both-and (list_all (q x) xs) (each_pair q xs) (all-more (p x) (q x) (h x) xs both.0) (pairs-more p q h xs both.1)
+    let both = and_parts (list_all (p x) xs) (each_pair p xs) e in
+    and_from (list_all (q x) xs) (each_pair q xs) (all-more (p x) (q x) (h x) xs both.0) (pairs-more p q h xs both.1)
 
 nested-pairs : (f : ℕ → ℕ) (s e c : ℕ) (xs : List Range) → Nests f s e c xs → each_pair stands (range s e c ∷ xs) ≡ true
 nested-pairs f s e c xs h =
-    both-and (list_all (stands (range s e c)) xs) (each_pair stands xs) (all-more (lies s e) (stands (range s e c)) (λ r l. stands-inside s e c r l) xs (nests-lie f s e c xs h))
+    and_from (list_all (stands (range s e c)) xs) (each_pair stands xs) (all-more (lies s e) (stands (range s e c)) (λ r l. stands-inside s e c r l) xs (nests-lie f s e c xs h))
     (nests-pairs f s e c xs h)
 
 has-root : (o s e c : ℕ) → s ≤ o → o < e → has_offset o (range s e c) ≡ true
@@ -188,8 +189,8 @@ pub nests-inner : (f : ℕ → ℕ) (s e c : ℕ) (xs : List Range) (o : ℕ) �
 nests-inner f s e c xs o h low high =
     let all = range s e c ∷ xs in
     let pairs = nested-pairs f s e c xs h in
-    let apart = pairs-more stands (λ a b. not (crosses a b)) (λ a b t. (and-both (not (crosses a b)) (precedes a b) t).0) all pairs in
-    let order = next-from-pairs precedes all (pairs-more stands precedes (λ a b t. (and-both (not (crosses a b)) (precedes a b) t).1) all pairs) in
+    let apart = pairs-more stands (λ a b. not (crosses a b)) (λ a b t. (and_parts (not (crosses a b)) (precedes a b) t).0) all pairs in
+    let order = next-from-pairs precedes all (pairs-more stands precedes (λ a b t. (and_parts (not (crosses a b)) (precedes a b) t).1) all pairs) in
     inner-sorted o all all (IsPermutation-refl all) (λ x. refl) apart order
     ∙ ap (λ t. last_count (cond t (range s e c ∷ filter (has_offset o) xs) (filter (has_offset o) xs))) (has-root o s e c low high)
     ∙ last-told o (range s e c) xs ∙ ap Some (nests-told f s e c xs o h low high)
@@ -211,10 +212,10 @@ nested-well s e c f le =
     let root = range s e c in
     let h = nests f s e c in
     let within : list_all (λ r. nat_le r.start r.end && is_within root r) (root ∷ xs) ≡ true =
-    both-and (nat_le s e && is_within root root) (list_all (λ r. nat_le r.start r.end && is_within root r) xs) (root-sound s e c le)
+    and_from (nat_le s e && is_within root root) (list_all (λ r. nat_le r.start r.end && is_within root r) xs) (root-sound s e c le)
     (all-more (lies s e) (λ r. nat_le r.start r.end && is_within root r) (λ r l. lies-sound s e c r l) xs (nests-lie f s e c xs h)) in
-    let apart = pairs-more stands (λ a b. not (crosses a b)) (λ a b t. (and-both (not (crosses a b)) (precedes a b) t).0) (root ∷ xs) (nested-pairs f s e c xs h) in
-    (faultless_where_nested (root ∷ xs)).1 (both-and (list_all (λ r. nat_le r.start r.end && is_within root r) (root ∷ xs)) (each_pair (λ a b. not (crosses a b)) (root ∷ xs)) within apart)
+    let apart = pairs-more stands (λ a b. not (crosses a b)) (λ a b t. (and_parts (not (crosses a b)) (precedes a b) t).0) (root ∷ xs) (nested-pairs f s e c xs h) in
+    (faultless_where_nested (root ∷ xs)).1 (and_from (list_all (λ r. nat_le r.start r.end && is_within root r) (root ∷ xs)) (each_pair (λ a b. not (crosses a b)) (root ∷ xs)) within apart)
 
 -- ---- one list of the counts
 

@@ -2,6 +2,7 @@
 use Rattle.std.proofs.Common.{◌≡◌, ℕ, zero, suc, ◌-◌, ◌<◌, ◌≤◌, List, [], ◌∷◌, ◌++◌, refl, sym, ap, ◌∙◌, arith, inl, inr, append_assoc}
 use Rattle.std.specs.Prelude.{Some, slice_get}
 use Rattle.std.proofs.lemmas.Bool.{cases_lt}
+use Rattle.std.proofs.lemmas.List.{append-nil}
 use Rattle.cov_model.specs.declared.report.Range.{Range}
 use Rattle.cov_model.specs.Normal.{range}
 use Rattle.cov_model.specs.Nested.{nest}
@@ -43,16 +44,12 @@ nest-skip f s t e c le same = only f s e c (nest s e c f) (nest t e c f) (nests 
 
 -- ---- all levels end
 
-append-none : {A : Type 0} (xs : List A) → xs ++ [] ≡ xs
-append-none [] = refl
-append-none (x ∷ xs) = ap (λ ys. x ∷ ys) (append-none xs)
-
 -- a range that doesn't go on has what is listed inside it
 ends : (f : ℕ → ℕ) (at : ℕ) (l : Level) → MayGoOn f at l → nest l.range.start l.range.end l.range.count f ≡ l.inside
 ends f at l h =
     let itself : l.range.end ≤ l.range.end = omega arith in
     h.done l.range.end itself ∙ ap (λ xs. l.inside ++ xs) (nest-plain f l.range.end l.range.end l.range.count (λ o low high. absurd (omega arith)))
-    ∙ append-none l.inside
+    ∙ append-nil l.inside
 
 first-child : (f : ℕ → ℕ) (from at y c p : ℕ) (l : Level) → l.range.start ≡ from → from < l.range.end → f from ≡ l.range.count → l.range.end ≡ suc p → f p ≡ l.range.count
     → MayGoOn f at l → ((o : ℕ) → from ≤ o → o < at → ¬ (f o ≡ c)) → at ≤ y → (at < y → f at ≡ c) → IsChild f from y c from at p

@@ -2,14 +2,13 @@
 use Rattle.std.proofs.Common.{◌≡◌, ℕ, ◌<◌, ◌≤◌, true, false, List, [], ◌∷◌, refl, sym, ap, ◌∙◌, subst, arith, inl, inr}
 use Rattle.std.specs.Prelude.{cond, eqb, ◌==◌, ◌&&◌, not, nat_le, nat_lt, Some}
 use Rattle.std.specs.List.{list_all}
-use Rattle.std.proofs.lemmas.Bool.{cases_lt, cases_Bool, lt-ltb, le-ltb, le-leb}
+use Rattle.std.proofs.lemmas.Bool.{cases_lt, cases_Bool, lt-ltb, le-ltb, le-leb, ne_eqb, and_from}
 use Rattle.std.proofs.lemmas.Bool.Decides.{nat_tests}
 use Rattle.cov_model.specs.declared.report.Range.{Range}
 use Rattle.cov_model.specs.Nesting.{inner}
 use Rattle.cov_model.specs.Normal.{range, maximal_runs, flat, is_flat, each_next, is_followed_by, IsFlatOf}
 use Rattle.cov_model.proofs.Flat.{flat_counts}
 use Rattle.cov_steps.specs.Runs.{BeginsOtherwise, AreRuns, count_in}
-use Rattle.cov_steps.proofs.Checks.{both-and}
 use Rattle.cov_steps.proofs.Maximal.{AreRuns-ordered, AreRuns-maximal, maximal_runs-same, maximal_runs-counts}
 use Rattle.cov_normal.specs.Parts.{may_stand, counts_otherwise, told}
 use Rattle.cov_normal.specs.Laws.{ThereIsOne, ThereIsNoOther}
@@ -55,14 +54,11 @@ AreRuns-filled s e c (r ∷ rs) h =
 eqb-same : (a : ℕ) → eqb a a ≡ true
 eqb-same a = grind (arith, nat_tests)
 
-eqb-other : (a b : ℕ) → ¬ (a ≡ b) → eqb a b ≡ false
-eqb-other a b ne = grind (arith, nat_tests)
-
 told-same : (root r : Range) (rs : List Range) → r.count ≡ root.count → told root (r ∷ rs) ≡ told root rs
 told-same root r rs same = ap (λ b. cond (not b) (r ∷ told root rs) (told root rs)) (ap (λ n. eqb n root.count) same ∙ eqb-same root.count)
 
 told-other : (root r : Range) (rs : List Range) → ¬ (r.count ≡ root.count) → told root (r ∷ rs) ≡ r ∷ told root rs
-told-other root r rs other = ap (λ b. cond (not b) (r ∷ told root rs) (told root rs)) (eqb-other r.count root.count other)
+told-other root r rs other = ap (λ b. cond (not b) (r ∷ told root rs) (told root rs)) (ne_eqb r.count root.count other)
 
 told-gap : (root : Range) (s m : ℕ) (rs : List Range) → told root (gap s m root.count rs) ≡ told root rs
 told-gap root s m rs =
@@ -129,7 +125,7 @@ may-told root s (r ∷ rs) from h =
     elim (cases_Bool (counts_otherwise root r)) [
       | inl other ↦
           ap (λ b. list_all (may_stand root) (cond b (r ∷ told root rs) (told root rs))) other
-          ∙ both-and (may_stand root r) (list_all (may_stand root) (told root rs)) (may-run root r (omega (arith, h.0, h.1)) (omega (arith, h.0)) (AreRuns-ordered r.end root.end rs h.3) other) later
+          ∙ and_from (may_stand root r) (list_all (may_stand root) (told root rs)) (may-run root r (omega (arith, h.0, h.1)) (omega (arith, h.0)) (AreRuns-ordered r.end root.end rs h.3) other) later
       | inr same ↦ ap (λ b. list_all (may_stand root) (cond b (r ∷ told root rs) (told root rs))) same ∙ later
     ]
 
@@ -156,7 +152,7 @@ next-told root before s (r ∷ rs) le other h =
     elim (cases_Bool (counts_otherwise root r)) [
       | inl tells ↦
           ap (λ b. each_next is_followed_by (before ∷ cond b (r ∷ told root rs) (told root rs))) tells
-          ∙ both-and (is_followed_by before r) (each_next is_followed_by (r ∷ told root rs)) (follows before r (omega arith) (λ touch. other (touch ∙ begin)))
+          ∙ and_from (is_followed_by before r) (each_next is_followed_by (r ∷ told root rs)) (follows before r (omega arith) (λ touch. other (touch ∙ begin)))
           (next-told root r r.end rs touches (λ _. h.2) h.3)
       | inr same ↦
           ap (λ b. each_next is_followed_by (before ∷ cond b (r ∷ told root rs) (told root rs))) same
@@ -179,8 +175,8 @@ flat-shape s e c f le =
     let runs = maximal_runs s e f in
     let are = AreRuns-maximal s e f le in
     let itself : s ≤ s = omega arith in
-    both-and (nat_le s e) (list_all (may_stand root) (told root runs) && each_next is_followed_by (told root runs)) (le-leb s e le)
-    (both-and (list_all (may_stand root) (told root runs)) (each_next is_followed_by (told root runs)) (may-told root s runs itself are) (each-told root s runs are))
+    and_from (nat_le s e) (list_all (may_stand root) (told root runs) && each_next is_followed_by (told root runs)) (le-leb s e le)
+    (and_from (list_all (may_stand root) (told root runs)) (each_next is_followed_by (told root runs)) (may-told root s runs itself are) (each-told root s runs are))
 
 flat-root : (s e c : ℕ) (f : ℕ → ℕ) → flat s e c f ≡ range s e c ∷ told (range s e c) (maximal_runs s e f)
 unfolding flat

@@ -4,6 +4,7 @@ use Rattle.std.specs.Prelude.{cond, eqb, Option, None, Some, slice_get}
 use Rattle.std.proofs.lemmas.Bool.{eqb-true}
 use Rattle.std.proofs.lemmas.Bool.Decides.{nat_tests}
 use Rattle.std.proofs.lemmas.Option.{slice_get_within}
+use Rattle.std.proofs.lemmas.List.{append-nil}
 use Rattle.cov_model.specs.declared.report.Range.{Range}
 use Rattle.cov_model.specs.Normal.{range}
 use Rattle.cov_model.specs.Nested.{nest, nested}
@@ -119,15 +120,11 @@ set-behind : {A : Type 0} (xs ys : List A) (j : ℕ) (a : A) → set (xs ++ ys) 
 set-behind [] ys j a = ap (λ n. set ys n a) (zero-first j)
 set-behind (x ∷ xs) ys j a = ap (λ n. set (x ∷ (xs ++ ys)) n a) (suc-first (length xs) j) ∙ ap (λ zs. x ∷ zs) (set-behind xs ys j a)
 
-append-none : {A : Type 0} (xs : List A) → xs ++ [] ≡ xs
-append-none [] = refl
-append-none (x ∷ xs) = ap (λ ys. x ∷ ys) (append-none xs)
-
 listed-grow : (h end : ℕ) (ls : List Level) (l : Level) → slice_get ls h ≡ Some l → listed (grow h end ls) ≡ set (listed ls) (place_of h ls) (range l.range.start end l.range.count)
 listed-grow h end [] l e = absurd cc
 listed-grow zero end (x ∷ ls) l e =
     let is : x ≡ l = cc in
-    ap (λ xs. range x.range.start end x.range.count ∷ xs) (append-none (x.inside ++ listed ls)) ∙ ap (λ (m : Level). range m.range.start end m.range.count ∷ (x.inside ++ listed ls)) is
+    ap (λ xs. range x.range.start end x.range.count ∷ xs) (append-nil (x.inside ++ listed ls)) ∙ ap (λ (m : Level). range m.range.start end m.range.count ∷ (x.inside ++ listed ls)) is
 listed-grow (suc h) end (x ∷ ls) l e =
     ap (λ xs. x.range ∷ (x.inside ++ xs)) (listed-grow h end ls l e) ∙ ap (λ xs. x.range ∷ xs) (sym (set-behind x.inside (listed ls) (place_of h ls) (range l.range.start end l.range.count)))
 
@@ -252,7 +249,7 @@ nesting-end f start count end ranges stack height nesting =
         let le : end ≤ end = omega arith in
         let none : nest end end l.range.count f ≡ [] = nest-plain f end end l.range.count (λ o low high. absurd (omega arith)) in
         let all : nest l.range.start end l.range.count f ≡ l.inside ++ listed ls =
-        stack.2.done end stack.2.reached ∙ ap (λ xs. l.inside ++ xs) (levels-end f l.range.end end end l.range.count ls stack.3 stack.2.gone le (λ lt. absurd (omega arith)) ∙ ap (λ xs. listed ls ++ xs) none ∙ append-none (listed ls)) in
+        stack.2.done end stack.2.reached ∙ ap (λ xs. l.inside ++ xs) (levels-end f l.range.end end end l.range.count ls stack.3 stack.2.gone le (λ lt. absurd (omega arith)) ∙ ap (λ xs. listed ls ++ xs) none ∙ append-nil (listed ls)) in
         ap (root_ended end) is ∙ (λ i. range (stack.0 i) end (stack.1 i) ∷ (l.inside ++ listed ls))
         ∙ ap (λ xs. range start end count ∷ xs) (sym all ∙ (λ i. nest (stack.0 i) end (stack.1 i) f))
         ∙ sym (nested-root start end count f)

@@ -2,6 +2,7 @@
 use Rattle.std.proofs.Common.{◌≡◌, ℕ, zero, suc, ◌+◌, Bool, true, false, List, [], ◌∷◌, ◌++◌, refl, ap, ◌∙◌, arith, take}
 use Rattle.std.specs.Prelude.{cond, Some, filter}
 use Rattle.std.specs.List.{slice_get}
+use Rattle.std.proofs.lemmas.List.{append-nil}
 
 filter-next : {A : Type 0} (p : A → Bool) (xs : List A) (i : ℕ) (x : A) → slice_get xs i ≡ Some x → filter p (take (suc i) xs) ≡ filter p (take i xs) ++ cond (p x) (x ∷ []) []
 filter-next p [] i x e = absurd cc
@@ -19,12 +20,8 @@ filter-kept p xs i x e is =
     let next : i + 1 ≡ suc i = omega arith in
     ap (λ n. filter p (take n xs)) next ∙ filter-next p xs i x e ∙ ap (λ b. filter p (take i xs) ++ cond b (x ∷ []) []) is
 
-append-none : {A : Type 0} (xs : List A) → xs ++ [] ≡ xs
-append-none [] = refl
-append-none (x ∷ xs) = ap (λ ys. x ∷ ys) (append-none xs)
-
 -- or it isn't.
 pub filter-left : {A : Type 0} (p : A → Bool) (xs : List A) (i : ℕ) (x : A) → slice_get xs i ≡ Some x → p x ≡ false → filter p (take (i + 1) xs) ≡ filter p (take i xs)
 filter-left p xs i x e is =
     let next : i + 1 ≡ suc i = omega arith in
-    ap (λ n. filter p (take n xs)) next ∙ filter-next p xs i x e ∙ ap (λ b. filter p (take i xs) ++ cond b (x ∷ []) []) is ∙ append-none (filter p (take i xs))
+    ap (λ n. filter p (take n xs)) next ∙ filter-next p xs i x e ∙ ap (λ b. filter p (take i xs) ++ cond b (x ∷ []) []) is ∙ append-nil (filter p (take i xs))

@@ -8,7 +8,7 @@ ghost use Rattle.cov_normal.specs.Read.{HasRead};
 
 use crate::nesting::Nesting;
 use cov_model::{FunctionReport, Items, Range, Steps, Text};
-use cov_ranges::{CheckFault, check_ranges};
+use cov_ranges::{CheckFault, are_one, check_ranges};
 use cov_steps::Runs;
 use std::alloc::{AllocError, Global};
 use std::marker::Brand;
@@ -105,12 +105,6 @@ fn nest(alloc: Global, ranges: &[Range]) -> Result<bool, AllocError>
         Err(CheckFault::Bad(_)) => Ok(false),
         Err(CheckFault::NoMemory) => Err(AllocError),
     }
-}
-
-fn are_one(a: &[Range], b: &[Range]) -> bool
-    ensures { IsTrue result ↔ (a.now ≡ b.now) }
-{
-    a == b
 }
 
 /// The runs of a normal list: at each offset of its root the innermost count, as `Runs::of` gives them of a

@@ -3,13 +3,12 @@ use Rattle.std.proofs.Common.{◌≡◌, ℕ, zero, suc, ◌+◌, ◌<◌, ◌�
 use Rattle.std.proofs.Math.Bool.{and-true, and-false}
 use Rattle.std.specs.Prelude.{Option, None, Some, ◌&&◌, is_none}
 use Rattle.std.specs.List.{list_all}
-use Rattle.std.proofs.lemmas.Bool.{cases_lt}
+use Rattle.std.proofs.lemmas.Bool.{cases_lt, and_parts, and_from}
 use Rattle.std.proofs.lemmas.List.Folds.{list_all_more}
 use Rattle.std.proofs.lemmas.List.{append-nil, take-append-drop, drop_more, take_more, take-take, take_all, length-take-le}
 use Rattle.cov_model.specs.declared.report.Range.{Range}
 use Rattle.cov_model.specs.Nesting.{fault_at, fault_from, or_else}
 use Rattle.cov_ranges.specs.Front.{sound, are_sound, are_apart, IsLongestFront}
-use Rattle.cov_ranges.proofs.Bools.{and-both, both-and}
 use Rattle.cov_ranges.proofs.Nested.{fault_from-None, none-from}
 
 -- ---- the first fault of two lists, one behind the other
@@ -38,8 +37,8 @@ all-taken : {A : Type 0} (p : A → Bool) (n : ℕ) (xs : List A) → list_all p
 all-taken p zero xs e = refl
 all-taken p (suc n) [] e = refl
 all-taken p (suc n) (x ∷ xs) e =
-    let both = and-both (p x) (list_all p xs) e in
-    both-and (p x) (list_all p (take n xs)) both.0 (all-taken p n xs both.1)
+    let both = and_parts (p x) (list_all p xs) e in
+    and_from (p x) (list_all p (take n xs)) both.0 (all-taken p n xs both.1)
 
 -- the first that isn't sound ends the longest front
 pub sound-stops : (root : Range) (ranges : List Range) (k : ℕ) (d : Range) → k < length ranges → are_sound root (take k ranges) ≡ true → false ≡ sound root (get_or ranges k d)
@@ -66,7 +65,7 @@ none-in-front root ranges firm count f =
     let cut = take-take count firm ranges less in
     none-from (fault_from root [] (take count ranges))
     (faultless root (take count ranges)
-    ∙ both-and (are_sound root (take count ranges)) (are_apart (take count ranges))
+    ∙ and_from (are_sound root (take count ranges)) (are_apart (take count ranges))
     (ap (λ l. are_sound root l) (sym cut) ∙ all-taken (sound root) count (take firm ranges) f.firmly.front)
     (ap (λ l. are_apart l) (sym cut) ∙ f.freely.front))
 

@@ -1,16 +1,17 @@
 -- A list of ranges has no fault exactly where it is well nested, and then its root alone says which offsets are counted.
 use Rattle.std.proofs.Common.{◌≡◌, ℕ, suc, ◌+◌, Bool, true, false, ◌&&◌, List, [], ◌∷◌, ◌++◌, refl, sym, ap, ◌∙◌, arith, length}
-use Rattle.std.proofs.Math.Bool.{and-true}
+use Rattle.std.proofs.Math.Bool.{and-true, or_comm}
 use Rattle.std.specs.Prelude.{Option, None, Some, nat_le, nat_lt, cond, filter, not, is_none, option_map}
 use Rattle.std.specs.List.{list_all, position_or_len}
 use Rattle.std.proofs.lemmas.Bool.Decides.{nat_tests}
 use Rattle.std.proofs.lemmas.List.Folds.{list_all-append}
+use Rattle.std.proofs.lemmas.Bool.{and_parts}
+use Rattle.cov_text.proofs.Bools.{all-same, all-yes, all-both}
 use Rattle.cov_model.specs.declared.report.Range.{Range}
 use Rattle.cov_model.specs.Nesting.{has_offset, is_within, runs_into, crosses, fault_at, fault_from, range_fault, or_else, each_pair, is_well_nested, innermost, inner}
 use Rattle.cov_ranges.specs.Root.{root_has}
 use Rattle.cov_ranges.specs.Front.{sound, apart}
 use Rattle.cov_ranges.specs.Laws.{FaultlessWhereNested}
-use Rattle.cov_ranges.proofs.Bools.{and-both, or-swap, all-same, all-yes, all-both}
 use Rattle.cov_ranges.proofs.Innermost.{scanned, scanned-innermost, scanned-Some}
 
 -- ---- tests
@@ -40,7 +41,7 @@ found p (x ∷ xs) =
 -- ---- the faults
 
 pub apart-swap : (a b : Range) → apart a b ≡ apart b a
-apart-swap a b = ap not (or-swap (runs_into a b) (runs_into b a))
+apart-swap a b = ap not (or_comm (runs_into a b) (runs_into b a))
 
 no-fault : {A B : Type 0} (inverted within hit : Bool) (x z : B) (g : A → B) (i : A)
     → is_none (cond inverted (Some x) (cond within (option_map g (cond hit (Some i) None)) (Some z))) ≡ ((not inverted && within) && not hit)
@@ -108,7 +109,7 @@ outside o root r out within = grind (arith, nat_tests)
 none-around : (o : ℕ) (root : Range) (rs : List Range) → has_offset o root ≡ false → list_all (sound root) rs ≡ true → filter (has_offset o) rs ≡ []
 none-around o root [] out all = refl
 none-around o root (r ∷ rs) out all =
-    let both = and-both (sound root r) (list_all (sound root) rs) all in
+    let both = and_parts (sound root r) (list_all (sound root) rs) all in
     ap (λ b. cond b (r ∷ filter (has_offset o) rs) (filter (has_offset o) rs)) (outside o root r out both.0) ∙ none-around o root rs out both.1
 
 some-scanned : (r : Range) (rs : List Range) → is_none (scanned None (r ∷ rs)) ≡ false
@@ -127,7 +128,7 @@ nested-None : (ranges : List Range) (o : ℕ) → is_well_nested ranges ≡ true
 unfolding is_well_nested
 nested-None [] o e = absurd cc
 nested-None (root ∷ rest) o e =
-    let both = and-both (list_all (sound root) (root ∷ rest)) (each_pair apart (root ∷ rest)) e in
+    let both = and_parts (list_all (sound root) (root ∷ rest)) (each_pair apart (root ∷ rest)) e in
     ap is_none (sym (scanned-innermost (filter (has_offset o) (root ∷ rest)))) ∙ innermost-None o root rest both.0 (has_offset o root) refl
 
 -- No range is innermost at an offset exactly where the root lacks it.

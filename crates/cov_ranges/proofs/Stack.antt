@@ -1,6 +1,6 @@
 -- The walk over ranges in V8's order with those that are still open, each in the one before.
 use Rattle.std.proofs.Common.{◌≡◌, ℕ, zero, suc, ◌+◌, ◌-◌, ◌<◌, Bool, true, false, List, [], ◌∷◌, ◌++◌, refl, sym, ap, ◌∙◌, subst, arith, length, take, drop, get_or}
-use Rattle.std.proofs.Math.Bool.{and-true, and-false}
+use Rattle.std.proofs.Math.Bool.{and-true, and-false, or-false}
 use Rattle.std.specs.Prelude.{Option, None, Some, option_to_list, ◌&&◌, ◌||◌, nat_le, cond, filter, slice_get}
 use Rattle.std.specs.Option.{MatchOption}
 use Rattle.std.specs.List.{list_all, list_any}
@@ -8,11 +8,12 @@ use Rattle.std.proofs.lemmas.Bool.Decides.{nat_tests}
 use Rattle.std.proofs.lemmas.List.{append-nil, drop_more}
 use Rattle.std.proofs.lemmas.List.Elements.{filter-append}
 use Rattle.std.proofs.lemmas.List.Folds.{list_all-append}
+use Rattle.std.proofs.lemmas.Bool.{and_parts, and_from, or_parts}
+use Rattle.cov_text.proofs.Bools.{or-same, all-more, all-yes, all-both, all-filtered, kept-pass, all-of-kept, all-kept}
 use Rattle.cov_model.specs.declared.report.Range.{Range}
 use Rattle.cov_model.specs.Nesting.{is_within, each_pair}
 use Rattle.cov_ranges.specs.Order.{precedes, ends_behind, ends_before}
 use Rattle.cov_ranges.specs.Front.{apart, are_apart}
-use Rattle.cov_ranges.proofs.Bools.{and-both, both-and, or-neither, or-same, or-none, all-more, all-yes, all-both, all-filtered, kept-pass, all-of-kept, all-kept}
 use Rattle.cov_ranges.proofs.Pairs.{against, pairs-push, pairs-filtered}
 
 -- The stack holds ranges each of which lies in those before it, and in order the rest comes behind them; and no two of
@@ -42,8 +43,8 @@ starts-itself r = grind (arith, nat_tests)
 
 ended-apart : (s r : Range) (rest : List Range) → ends_behind r.start s ≡ false → each_pair precedes (r ∷ rest) ≡ true → list_all (apart s) (r ∷ rest) ≡ true
 ended-apart s r rest ended order =
-    let both = and-both (list_all (precedes r) rest) (each_pair precedes rest) order in
-    both-and (apart s r) (list_all (apart s) rest) (after-end s r r.start ended (starts-itself r))
+    let both = and_parts (list_all (precedes r) rest) (each_pair precedes rest) order in
+    and_from (apart s r) (list_all (apart s) rest) (after-end s r r.start ended (starts-itself r))
     (all-more (precedes r) (apart s) (λ z e. after-end s z r.start ended (starts-later r z e)) rest both.0)
 
 walk-closed : (all stack : List Range) (r : Range) (rest : List Range) → Walked all stack (r ∷ rest) → Walked all (filter (ends_behind r.start) stack) (r ∷ rest)
@@ -71,9 +72,9 @@ crossed-one : (r : Range) (rest stack : List Range) → list_all (ends_behind r.
     → against apart stack (r ∷ rest) ≡ false
 crossed-one r rest [] late behind past = absurd cc
 crossed-one r rest (s ∷ stack) late behind past =
-    let l = and-both (ends_behind r.start s) (list_all (ends_behind r.start) stack) late in
-    let b = and-both (precedes s r && list_all (precedes s) rest) (against precedes stack (r ∷ rest)) behind in
-    let p = and-both (precedes s r) (list_all (precedes s) rest) b.0 in
+    let l = and_parts (ends_behind r.start s) (list_all (ends_behind r.start) stack) late in
+    let b = and_parts (precedes s r && list_all (precedes s) rest) (against precedes stack (r ∷ rest)) behind in
+    let p = and_parts (precedes s r) (list_all (precedes s) rest) b.0 in
     by (ends_before r.end s) refl l.0 p.0 past (λ more. crossed-one r rest stack l.1 b.1 more)
   where
     by : (ends : Bool) → ends_before r.end s ≡ ends → ends_behind r.start s ≡ true → precedes s r ≡ true → (ends || list_any (ends_before r.end) stack) ≡ true
@@ -89,9 +90,9 @@ walk-crossed all stack r rest w late past =
 holding-all : (r : Range) (stack : List Range) → list_all (λ s. precedes s r) stack ≡ true → list_any (ends_before r.end) stack ≡ false → list_all (λ s. is_within s r) stack ≡ true
 holding-all r [] e f = refl
 holding-all r (s ∷ stack) e f =
-    let pe = and-both (precedes s r) (list_all (λ x. precedes x r) stack) e in
-    let pf = or-neither (ends_before r.end s) (list_any (ends_before r.end) stack) f in
-    both-and (is_within s r) (list_all (λ x. is_within x r) stack) (holding s r pe.0 pf.0) (holding-all r stack pe.1 pf.1)
+    let pe = and_parts (precedes s r) (list_all (λ x. precedes x r) stack) e in
+    let pf = or_parts (ends_before r.end s) (list_any (ends_before r.end) stack) f in
+    and_from (is_within s r) (list_all (λ x. is_within x r) stack) (holding s r pe.0 pf.0) (holding-all r stack pe.1 pf.1)
 
 regroup-more : (b p g : Bool) → (p && (g && (b && true))) ≡ ((b && p) && g)
 regroup-more true true true = refl
@@ -104,14 +105,14 @@ regroup-more false false g = refl
 -- it ends behind none, and so lies in all of them
 pub walk-more : (all stack : List Range) (r : Range) (rest : List Range) → Walked all stack (r ∷ rest) → list_any (ends_before r.end) stack ≡ false → Walked all (stack ++ r ∷ []) rest
 walk-more all stack r rest w past =
-    let parts = and-both (list_all (λ s. precedes s r) stack) (against precedes stack rest) (sym (all-both (λ s. precedes s r) (λ s. list_all (precedes s) rest) stack) ∙ w.behind) in
+    let parts = and_parts (list_all (λ s. precedes s r) stack) (against precedes stack rest) (sym (all-both (λ s. precedes s r) (λ s. list_all (precedes s) rest) stack) ∙ w.behind) in
     let holds = holding-all r stack parts.0 past in
-    let order = and-both (list_all (precedes r) rest) (each_pair precedes rest) w.order in
+    let order = and_parts (list_all (precedes r) rest) (each_pair precedes rest) w.order in
     let clear : list_all (λ s. apart s r) stack ≡ true = all-more (λ s. is_within s r) (λ s. apart s r) (λ s e. within-apart s r e) stack holds in
     record {
-      nested = pairs-push is_within stack r ∙ both-and (each_pair is_within stack) (list_all (λ s. is_within s r) stack) w.nested holds;
+      nested = pairs-push is_within stack r ∙ and_from (each_pair is_within stack) (list_all (λ s. is_within s r) stack) w.nested holds;
       behind = list_all-append (λ s. list_all (precedes s) rest) stack (r ∷ [])
-          ∙ both-and (against precedes stack rest) (list_all (precedes r) rest && true) parts.1 (both-and (list_all (precedes r) rest) true order.0 refl);
+          ∙ and_from (against precedes stack rest) (list_all (precedes r) rest && true) parts.1 (and_from (list_all (precedes r) rest) true order.0 refl);
       order = order.1;
       same = ap (λ b. each_pair apart rest && b) (list_all-append (λ s. list_all (apart s) rest) stack (r ∷ []))
           ∙ regroup-more (list_all (apart r) rest) (each_pair apart rest) (against apart stack rest)
@@ -151,11 +152,11 @@ inward : (o : ℕ) (a b : Range) → is_within a b ≡ true → ends_before o a 
 inward o a b e f = grind (arith, nat_tests)
 
 any-pushed : (o : ℕ) (xs : List Range) (x : Range) → each_pair is_within (xs ++ x ∷ []) ≡ true → list_any (ends_before o) (xs ++ x ∷ []) ≡ ends_before o x
-any-pushed o [] x e = or-none (ends_before o x)
+any-pushed o [] x e = or-false (ends_before o x)
 any-pushed o (y ∷ xs) x e =
-    let both = and-both (list_all (is_within y) (xs ++ x ∷ [])) (each_pair is_within (xs ++ x ∷ [])) e in
-    let split = and-both (list_all (is_within y) xs) (is_within y x && true) (sym (list_all-append (is_within y) xs (x ∷ [])) ∙ both.0) in
-    let here = and-both (is_within y x) true split.1 in
+    let both = and_parts (list_all (is_within y) (xs ++ x ∷ [])) (each_pair is_within (xs ++ x ∷ [])) e in
+    let split = and_parts (list_all (is_within y) xs) (is_within y x && true) (sym (list_all-append (is_within y) xs (x ∷ [])) ∙ both.0) in
+    let here = and_parts (is_within y x) true split.1 in
     ap (λ b. ends_before o y || b) (any-pushed o xs x both.1) ∙ or-same (ends_before o y) (ends_before o x) (λ f. inward o y x here.0 f)
 
 front-last : (xs : List Range) (k : ℕ) (x : Range) → suc k ≡ length xs → slice_get xs k ≡ Some x → xs ≡ take k xs ++ x ∷ []
@@ -208,7 +209,7 @@ popped o before after None is nested any =
 popped o before after (Some r) is nested any =
     let inside : each_pair is_within (after ++ r ∷ []) ≡ true = ap (λ l. each_pair is_within l) (sym is) ∙ nested in
     let ends : ends_before (o + 1) r ≡ true = sym (any-pushed (o + 1) after r inside) ∙ ap (λ l. list_any (ends_before (o + 1)) l) (sym is) ∙ any in
-    let both = and-both (each_pair is_within after) (list_all (λ x. is_within x r) after) (sym (pairs-push is_within after r) ∙ inside) in
+    let both = and_parts (each_pair is_within after) (list_all (λ x. is_within x r) after) (sym (pairs-push is_within after r) ∙ inside) in
     record {
       nested = both.0;
       same = sym (ap (λ l. filter (ends_behind o) l) is ∙ filter-append (ends_behind o) after (r ∷ [])

@@ -3,7 +3,7 @@ ghost use Rattle.std.specs.Prelude.{◌≡◌, IfOk};
 ghost use Rattle.cov_ranges.specs.Front.{sound, are_sound, are_apart, IsLongestFront};
 
 use crate::check::lies_in;
-use crate::order::{in_order, is_in_order};
+use crate::order::{are_in_order, in_order};
 use crate::walk::nest_in_order;
 use cov_model::Range;
 use std::alloc::{AllocError, Global};
@@ -50,7 +50,7 @@ pub(crate) fn count_apart(alloc: Global, ranges: &[Range]) -> Result<usize, Allo
 fn all_apart(alloc: Global, ranges: &[Range]) -> Result<bool, AllocError>
     ensures { IfOk result (λ apart. apart ≡ are_apart ranges.now) }
 {
-    if is_in_order(ranges) {
+    if are_in_order(ranges) {
         return nest_in_order(alloc, ranges);
     }
     let ordered = in_order(alloc, ranges)?;

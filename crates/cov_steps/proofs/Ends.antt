@@ -4,15 +4,13 @@ use Rattle.std.specs.Prelude.{cond, eqb, get_or}
 use Rattle.std.proofs.Math.ListN.{set}
 use Rattle.std.proofs.lemmas.Bool.Decides.{nat_tests}
 use Rattle.std.proofs.lemmas.List.{set-get_or}
+use Rattle.std.proofs.lemmas.Bool.{ne_eqb}
 use Rattle.cov_model.specs.declared.report.Range.{Range}
 use Rattle.cov_model.specs.Normal.{range}
 use Rattle.cov_steps.specs.Walking.{pushed}
 
 eqb-is : (a b : ℕ) → a ≡ b → eqb a b ≡ true
 eqb-is a b e = grind (arith, nat_tests)
-
-eqb-not : (a b : ℕ) → ¬ (a ≡ b) → eqb a b ≡ false
-eqb-not a b ne = grind (arith, nat_tests)
 
 -- the last run made longer
 pub pushed-same : (rs : List Range) (i : ℕ) (last run : Range) → suc i ≡ length rs → last ≡ get_or rs i last → last.count ≡ run.count
@@ -29,7 +27,7 @@ pushed-same (x ∷ y ∷ rs) (suc i) last run is at same = ap (λ more. x ∷ mo
 pushed-other : (rs : List Range) (i : ℕ) (last run : Range) → suc i ≡ length rs → last ≡ get_or rs i last → ¬ (last.count ≡ run.count) → rs ++ run ∷ [] ≡ pushed rs run
 pushed-other [] i last run is at other = absurd (omega arith)
 pushed-other (x ∷ []) zero last run is at other =
-    let unequal : eqb x.count run.count ≡ false = eqb-not x.count run.count (λ e. other (ap (λ (r : Range). r.count) at ∙ e)) in
+    let unequal : eqb x.count run.count ≡ false = ne_eqb x.count run.count (λ e. other (ap (λ (r : Range). r.count) at ∙ e)) in
     sym (ap (λ b. cond b (range x.start run.end x.count ∷ []) (x ∷ run ∷ [])) unequal)
 pushed-other (x ∷ []) (suc i) last run is at other = absurd (omega arith)
 pushed-other (x ∷ y ∷ rs) zero last run is at other = absurd (omega arith)

@@ -1,6 +1,5 @@
 pub mod Ends
 pub mod Maximal
-pub mod Checks
 pub mod Open
 pub mod Ordered
 pub mod Sorted

@@ -1,7 +1,7 @@
 -- Maximal runs: how they grow at their end, that they count what they were made of, and that their counts determine them.
 use Rattle.std.proofs.Common.{◌≡◌, ℕ, zero, suc, ◌+◌, ◌-◌, ◌<◌, ◌≤◌, Bool, true, false, List, [], ◌∷◌, refl, sym, ap, ◌∙◌, subst, arith, inl, inr}
 use Rattle.std.specs.Prelude.{cond, eqb, nat_le, nat_lt, ◌&&◌}
-use Rattle.std.proofs.lemmas.Bool.{cases_lt, cases_Bool, lt-ltb, le-ltb, lt-leb, le-leb, eqb-true}
+use Rattle.std.proofs.lemmas.Bool.{cases_lt, cases_Bool, lt-ltb, le-ltb, lt-leb, le-leb, eqb-true, ne_eqb}
 use Rattle.std.proofs.lemmas.Bool.Decides.{nat_tests}
 use Rattle.cov_model.specs.declared.report.Range.{Range}
 use Rattle.cov_model.specs.Normal.{range, grown, runs_over, maximal_runs}
@@ -15,9 +15,6 @@ eqb-swap a b = grind (arith, nat_tests)
 
 eqb-same : (a : ℕ) → eqb a a ≡ true
 eqb-same a = grind (arith, nat_tests)
-
-eqb-other : (a b : ℕ) → ¬ (a ≡ b) → eqb a b ≡ false
-eqb-other a b ne = grind (arith, nat_tests)
 
 eqb-false : (a b : ℕ) → eqb a b ≡ false → ¬ (a ≡ b)
 eqb-false a b e = grind (arith, nat_tests)
@@ -57,7 +54,7 @@ grown-same s c r rest f is same =
 
 grown-otherwise : (s c : ℕ) (rest : List Range) → BeginsOtherwise c rest → grown s c rest ≡ range s (suc s) c ∷ rest
 grown-otherwise s c [] h = refl
-grown-otherwise s c (r ∷ rest) h = ap (λ b. cond b (range s r.end c ∷ rest) (range s (suc s) c ∷ r ∷ rest)) (eqb-other r.count c h)
+grown-otherwise s c (r ∷ rest) h = ap (λ b. cond b (range s r.end c ∷ rest) (range s (suc s) c ∷ r ∷ rest)) (ne_eqb r.count c h)
 
 -- one count from s up to m, and what comes behind begins with another
 runs_over-ahead : (k s m e c : ℕ) (f : ℕ → ℕ) (rest : List Range) → s + suc k ≡ m → m ≤ e → ((o : ℕ) → s ≤ o → o < m → f o ≡ c) → BeginsOtherwise c rest

@@ -2,10 +2,12 @@
 use Rattle.std.proofs.Common.{◌≡◌, ℕ, ◌<◌, ◌≤◌, Bool, true, false, List, [], ◌∷◌, ◌++◌, refl, sym, ap, ◌∙◌, arith, inl, inr}
 use Rattle.std.specs.Prelude.{cond, filter, None, Some, option_map, max}
 use Rattle.std.proofs.lemmas.Bool.{cases_lt, lt-ltb, le-ltb}
+use Rattle.std.proofs.lemmas.List.{append-nil}
 use Rattle.cov_text.specs.Listing.{last_of}
 use Rattle.cov_model.specs.declared.report.Range.{Range}
 use Rattle.cov_model.specs.Normal.{range, maximal_runs}
-use Rattle.cov_steps.specs.Walking.{pushed, ends_behind, last_count, open_count, Painted, pushed_between}
+use Rattle.cov_ranges.specs.Order.{ends_behind}
+use Rattle.cov_steps.specs.Walking.{pushed, last_count, open_count, Painted, pushed_between}
 use Rattle.cov_steps.proofs.Maximal.{maximal_runs-pushed}
 
 pub filter-behind : {A : Type 0} (p : A → Bool) (xs : List A) (x : A) → filter p (xs ++ x ∷ []) ≡ filter p xs ++ cond (p x) (x ∷ []) []
@@ -16,10 +18,6 @@ filter-behind p (y ∷ xs) x =
       | true ↦ refl
       | false ↦ refl
     ]
-
-none-behind : {A : Type 0} (xs : List A) → xs ++ [] ≡ xs
-none-behind [] = refl
-none-behind (x ∷ xs) = ap (λ ys. x ∷ ys) (none-behind xs)
 
 last-behind : {A : Type 0} (xs : List A) (x : A) → last_of (xs ++ x ∷ []) ≡ Some x
 last-behind [] x = refl
@@ -32,7 +30,7 @@ last_count-behind p rs r =
     ap last_count (filter-behind p rs r)
     ∙ elim (p r) as (λ b. last_count (filter p rs ++ cond b (r ∷ []) []) ≡ cond b (Some r.count) (last_count (filter p rs))) [
       | true ↦ ap (option_map (λ x. x.count)) (last-behind (filter p rs) r)
-      | false ↦ ap last_count (none-behind (filter p rs))
+      | false ↦ ap last_count (append-nil (filter p rs))
     ]
 
 pub open-top : (rs : List Range) (top : Range) (o : ℕ) → o < top.end → open_count (rs ++ top ∷ []) o ≡ Some top.count

@@ -3,24 +3,25 @@ use Rattle.std.proofs.Common.{◌≡◌, ℕ, zero, suc, ◌+◌, ◌<◌, ◌�
 use Rattle.std.specs.Prelude.{cond, nat_le, nat_lt, ◌&&◌, not, filter, Option, None, Some, is_none, is_some, unwrap_or, get_or}
 use Rattle.std.specs.List.{list_all}
 use Rattle.std.specs.List.Sorted.{IsPermutation, IsSortedBy, IsStableBy}
-use Rattle.std.proofs.lemmas.Bool.{le-leb, lt-ltb}
+use Rattle.std.proofs.lemmas.Bool.{le-leb, lt-ltb, and_parts, and_from}
 use Rattle.std.proofs.lemmas.Bool.Decides.{nat_tests}
 use Rattle.std.proofs.lemmas.List.{take_more}
 use Rattle.std.proofs.lemmas.List.Sorted.{IsPermutation-refl}
 use Rattle.cov_text.specs.Listing.{first_of}
+use Rattle.cov_text.proofs.Bools.{all-more}
 use Rattle.cov_model.specs.declared.report.Range.{Range}
 use Rattle.cov_model.specs.Nesting.{has_offset, crosses, each_pair, range_fault, is_well_nested, inner, inner_count}
 use Rattle.cov_model.specs.Normal.{each_next, maximal_runs}
 use Rattle.cov_ranges.proofs.Nested.{nested-from-faultless, inner-root}
-use Rattle.cov_steps.specs.Order.{comes_first}
-use Rattle.cov_steps.specs.Walking.{precedes, lies_in, ends_behind, last_count, last_at, open_count, starts_from, Walkable}
-use Rattle.cov_steps.proofs.Checks.{and-both, both-and, all-more}
+use Rattle.cov_ranges.specs.Order.{comes_first, ends_behind, precedes}
+use Rattle.cov_ranges.proofs.Pairs.{all-permuted}
+use Rattle.cov_ranges.proofs.Sorted.{order-from-sorted, pairs-from-next}
+use Rattle.cov_steps.specs.Walking.{lies_in, last_count, last_at, open_count, starts_from, Walkable}
 use Rattle.cov_steps.specs.Runs.{count_in}
 use Rattle.cov_steps.specs.Laws.{RunsCount}
 use Rattle.cov_steps.proofs.Maximal.{maximal_runs-same, AreRuns-maximal, count_in-maximal}
 use Rattle.cov_steps.proofs.Open.{last_count-behind}
-use Rattle.cov_steps.proofs.Ordered.{pairs-from-next}
-use Rattle.cov_steps.proofs.Sorted.{all-permuted, order-from-sorted, inner-sorted}
+use Rattle.cov_steps.proofs.Sorted.{inner-sorted}
 
 -- ---- the root
 
@@ -42,8 +43,8 @@ unfolding is_well_nested
 nested [] root faultless first = absurd cc
 nested (r ∷ rest) root faultless first =
     let is : r ≡ root = cc in
-    let both = and-both (list_all (lies_in r) (r ∷ rest)) (each_pair (λ a b. not (crosses a b)) (r ∷ rest)) (nested-from-faultless (r ∷ rest) faultless) in
-    let itself = (lies-ordered r r (and-both (lies_in r r) (list_all (lies_in r) rest) both.0).0).0 in
+    let both = and_parts (list_all (lies_in r) (r ∷ rest)) (each_pair (λ a b. not (crosses a b)) (r ∷ rest)) (nested-from-faultless (r ∷ rest) faultless) in
+    let itself = (lies-ordered r r (and_parts (lies_in r r) (list_all (lies_in r) rest) both.0).0).0 in
     record {
       within = ap (λ x. list_all (lies_in x) (r ∷ rest)) (sym is) ∙ both.0;
       apart = both.1;
@@ -57,8 +58,8 @@ first-ordered (r ∷ rest) d faultless some = (nested (r ∷ rest) r faultless r
 
 all-at : (p : Range → Bool) (rs : List Range) (i : ℕ) (d : Range) → list_all p rs ≡ true → i < length rs → p (get_or rs i d) ≡ true
 all-at p [] i d all lt = absurd (omega arith)
-all-at p (r ∷ rs) zero d all lt = (and-both (p r) (list_all p rs) all).0
-all-at p (r ∷ rs) (suc i) d all lt = all-at p rs i d (and-both (p r) (list_all p rs) all).1 (omega arith)
+all-at p (r ∷ rs) zero d all lt = (and_parts (p r) (list_all p rs) all).0
+all-at p (r ∷ rs) (suc i) d all lt = all-at p rs i d (and_parts (p r) (list_all p rs) all).1 (omega arith)
 
 pub within-root : (ranges : List Range) (root d : Range) (i : ℕ) → list_all (lies_in root) ranges ≡ true → i < length ranges → (get_or ranges i d).start ≤ root.end
 within-root ranges root d i within lt = let is = lies-ordered root (get_or ranges i d) (all-at (lies_in root) ranges i d within lt) in omega (arith, is.0, is.2)
@@ -117,7 +118,7 @@ runs_count (r ∷ rest) faultless =
 
 pub starts-at : (n : ℕ) (ranges : List Range) (i : ℕ) (d : Range) → starts_from n (drop i ranges) ≡ true → i < length ranges → n ≤ (get_or ranges i d).start
 starts-at n [] i d e lt = absurd (omega arith)
-starts-at n (r ∷ rs) zero d e lt = let is = (and-both (nat_le n r.start) (starts_from n rs) e).0 in tells n r.start is
+starts-at n (r ∷ rs) zero d e lt = let is = (and_parts (nat_le n r.start) (starts_from n rs) e).0 in tells n r.start is
   where
     tells : (a b : ℕ) → nat_le a b ≡ true → a ≤ b
     tells a b is = grind (arith, nat_tests)
@@ -126,22 +127,22 @@ starts-at n (r ∷ rs) (suc i) d e lt = starts-at n rs i d e (omega arith)
 starts-pairs : (ranges : List Range) (i : ℕ) (d : Range) → each_pair precedes ranges ≡ true → i < length ranges → starts_from (get_or ranges i d).start (drop i ranges) ≡ true
 starts-pairs [] i d pairs lt = absurd (omega arith)
 starts-pairs (r ∷ rs) zero d pairs lt =
-    let all = (and-both (list_all (precedes r) rs) (each_pair precedes rs) pairs).0 in
-    both-and (nat_le r.start r.start) (starts_from r.start rs) (itself r.start) (all-more (precedes r) (λ x. nat_le r.start x.start) (λ x e. starts r x e) rs all)
+    let all = (and_parts (list_all (precedes r) rs) (each_pair precedes rs) pairs).0 in
+    and_from (nat_le r.start r.start) (starts_from r.start rs) (itself r.start) (all-more (precedes r) (λ x. nat_le r.start x.start) (λ x e. starts r x e) rs all)
   where
     itself : (n : ℕ) → nat_le n n ≡ true
     itself n = grind (arith, nat_tests)
 
     starts : (a b : Range) → precedes a b ≡ true → nat_le a.start b.start ≡ true
     starts a b e = grind (arith, nat_tests)
-starts-pairs (r ∷ rs) (suc i) d pairs lt = starts-pairs rs i d (and-both (list_all (precedes r) rs) (each_pair precedes rs) pairs).1 (omega arith)
+starts-pairs (r ∷ rs) (suc i) d pairs lt = starts-pairs rs i d (and_parts (list_all (precedes r) rs) (each_pair precedes rs) pairs).1 (omega arith)
 
 pub starts-next : (ranges : List Range) (i : ℕ) (d : Range) → each_next precedes ranges ≡ true → i < length ranges → starts_from (get_or ranges i d).start (drop i ranges) ≡ true
 starts-next ranges i d order lt = starts-pairs ranges i d (pairs-from-next ranges order) lt
 
 starts-behind : (n : ℕ) (ranges : List Range) (i : ℕ) → starts_from n (drop i ranges) ≡ true → starts_from n (drop (suc i) ranges) ≡ true
 starts-behind n [] i e = refl
-starts-behind n (r ∷ rs) zero e = (and-both (nat_le n r.start) (starts_from n rs) e).1
+starts-behind n (r ∷ rs) zero e = (and_parts (nat_le n r.start) (starts_from n rs) e).1
 starts-behind n (r ∷ rs) (suc i) e = starts-behind n rs i e
 
 pub starts-more : (n : ℕ) (ranges : List Range) (i : ℕ) → starts_from n (drop i ranges) ≡ true → starts_from n (drop (i + 1) ranges) ≡ true
@@ -158,7 +159,7 @@ starts-none n (r ∷ rs) (suc i) le = starts-none n rs i (omega arith)
 none-starts : (o to : ℕ) (rs : List Range) → starts_from to rs ≡ true → o < to → filter (has_offset o) rs ≡ []
 none-starts o to [] e lt = refl
 none-starts o to (r ∷ rs) e lt =
-    let both = and-both (nat_le to r.start) (starts_from to rs) e in
+    let both = and_parts (nat_le to r.start) (starts_from to rs) e in
     ap (λ b. cond b (r ∷ filter (has_offset o) rs) (filter (has_offset o) rs)) (out r both.0) ∙ none-starts o to rs both.1 lt
   where
     out : (r : Range) → nat_le to r.start ≡ true → has_offset o r ≡ false

@@ -1,5 +1,4 @@
 pub mod Runs
 pub mod Sum
-pub mod Order
 pub mod Walking
 pub mod Laws

@@ -1,10 +1,11 @@
 -- What private helpers ask, keep and answer. It follows their walk, and no public contract cites it.
-use Rattle.std.specs.Prelude.{◌≡◌, ℕ, ◌<◌, ◌≤◌, Bool, true, ◌&&◌, ◌||◌, ◌==◌, nat_lt, nat_le, List, [], ◌∷◌, drop, length, filter, Option, Some, is_some, option_map, if◌then◌else◌}
+use Rattle.std.specs.Prelude.{◌≡◌, ℕ, ◌<◌, ◌≤◌, Bool, true, ◌&&◌, ◌==◌, nat_lt, nat_le, List, [], ◌∷◌, drop, length, filter, Option, Some, is_some, option_map, if◌then◌else◌}
 use Rattle.std.specs.List.{list_all}
 use Rattle.cov_text.specs.Listing.{last_of}
 use Rattle.cov_model.specs.declared.report.Range.{Range}
 use Rattle.cov_model.specs.Nesting.{has_offset, is_within}
 use Rattle.cov_model.specs.Normal.{range, each_next, maximal_runs}
+use Rattle.cov_ranges.specs.Order.{precedes, ends_behind}
 use Rattle.cov_steps.specs.Runs.{AreRuns, count_in}
 
 -- ---- runs that grow at their end, and runs that are read
@@ -25,16 +26,9 @@ pub record Walked (runs : List Range) (end next reached : ℕ) (run : Range) : T
 
 -- ---- ranges in V8's order
 
--- it starts first, or at the same offset and ends no sooner
-abbrev pub precedes : Range → Range → Bool
-precedes a b = nat_lt a.start b.start || (a.start == b.start && nat_le b.end a.end)
-
 -- it ends no sooner than it starts, and lies in the root
 abbrev pub lies_in : Range → Range → Bool
 lies_in root r = nat_le r.start r.end && is_within root r
-
-abbrev pub ends_behind : ℕ → Range → Bool
-ends_behind o r = nat_lt o r.end
 
 -- the count of the last of some ranges
 abbrev pub last_count : List Range → Option ℕ

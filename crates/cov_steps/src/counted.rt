@@ -5,10 +5,10 @@ ghost use Rattle.cov_model.specs.Nesting.{range_fault, inner_count};
 ghost use Rattle.cov_model.specs.Normal.{maximal_runs};
 ghost use Rattle.cov_steps.specs.Walking.{Walkable, last_at, open_count, Painted, pushed_between};
 
-use crate::order::{are_in_order, in_order};
 use crate::pushing::push_run;
 use crate::runs::Run;
 use cov_model::Range;
+use cov_ranges::{are_in_order, in_order};
 use std::alloc::{AllocError, Global};
 
 // The runs of well nested ranges with this root: they are walked once, in V8's order, into which they are sorted where

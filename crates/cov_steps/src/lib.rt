@@ -6,7 +6,6 @@
 mod counted;
 mod fault;
 pub mod laws;
-mod order;
 mod pushing;
 mod runs;
 mod sum;

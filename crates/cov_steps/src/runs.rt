@@ -6,6 +6,7 @@ use crate::counted::runs_of;
 use crate::fault::StepFault;
 use crate::sum::summed;
 use cov_model::{FunctionReport, Range, Steps};
+use cov_ranges::are_one;
 use std::alloc::{AllocError, Global};
 use std::marker::{Brand, Model};
 use std::sync::ledger::{Blank, Ledger};
@@ -165,10 +166,4 @@ fn get_with<L: Ledger>(runs: &Runs, i: usize, blank: Blank) -> Run
 {
     let mut steps: Steps<L> = Steps::new(blank);
     runs.get(i, &mut steps)
-}
-
-fn are_one(a: &[Run], b: &[Run]) -> bool
-    ensures { IsTrue result ↔ (a.now ≡ b.now) }
-{
-    a == b
 }

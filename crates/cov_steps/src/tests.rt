@@ -1,5 +1,4 @@
-ghost use Rattle.std.specs.Prelude.{◌≡◌, ◌<◌, None, IfOk};
-ghost use Rattle.cov_model.specs.Nesting.{range_fault};
+ghost use Rattle.std.specs.Prelude.{◌≡◌, ◌<◌, None};
 
 use crate::{Run, Runs, StepFault, Steps};
 use cov_model::{FunctionReport, Items, Text};
@@ -240,6 +239,57 @@ fn refuses_at_the_least_offset(rt: HostRuntime) -> Result<(), Fail> {
         &[run(0, 10, 0), run(5, 6, 2), run(7, 8, 3)],
         within,
     )?;
+    let inside = StepFault::TooBig {
+        offset: 2,
+        held: u64::MAX,
+        added: 1,
+    };
+    check_refusal(
+        &rt,
+        alloc,
+        &[full, run(2, 4, u64::MAX)],
+        &[run(0, 10, 0), run(2, 4, 1)],
+        inside,
+    )?;
+    Ok(())
+}
+
+/// How many ranges are nested in each other.
+const DEEP: u32 = 100_000;
+
+// One of the ranges that are each within the one before it.
+fn deep_range(place: u32) -> Run
+    requires { place < 100000 }
+{
+    run(place, 200_000 - place, place as u64 + 1)
+}
+
+// The runs of these ranges, the root first, and then by rising or by falling starts.
+fn deep_runs(alloc: Global, is_rising: bool) -> Result<Runs, Fail> {
+    let mut ranges = Vec::new(alloc);
+    ranges.push(deep_range(0))?;
+    for place in 1..DEEP {
+        let next = if is_rising {
+            deep_range(place)
+        } else {
+            deep_range(DEEP - place)
+        };
+        ranges.push(next)?;
+    }
+    runs_of(alloc, &ranges)
+}
+
+#[test]
+fn deep_nested_ranges(rt: HostRuntime) -> Result<(), Fail> {
+    let alloc = rt.alloc();
+    let rising = deep_runs(alloc, true)?;
+    assert_eq!(rt; rising.len(), 199_999);
+    assert_eq!(rt; rising.get_uncounted(0), run(0, 1, 1));
+    assert_eq!(rt; rising.get_uncounted(1), run(1, 2, 2));
+    assert_eq!(rt; rising.get_uncounted(99_999), run(99_999, 100_001, 100_000));
+    assert_eq!(rt; rising.get_uncounted(199_997), run(199_998, 199_999, 2));
+    let falling = deep_runs(alloc, false)?;
+    assert!(rt; rising.agrees(&falling));
     Ok(())
 }
 

@@ -1,9 +1,9 @@
 use Rattle.std.proofs.Common.{rules}
 use Rattle.std.specs.Prelude.{not}
 use Rattle.std.proofs.lemmas.List.Sorted.{answers_always}
-use Rattle.cov_steps.specs.Order.{comes_first}
-use Rattle.cov_steps.proofs.Sorted.{sorted-answer}
-use Rattle.cov_steps.proofs.order.are_in_order.Goals as goal
+use Rattle.cov_ranges.specs.Order.{comes_first}
+use Rattle.cov_ranges.proofs.Sorted.{sorted-answer}
+use Rattle.cov_ranges.proofs.order.are_in_order.Goals as goal
 
 pub returns : goal.returns
 returns c =
