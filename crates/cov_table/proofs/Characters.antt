@@ -5,7 +5,7 @@ use Rattle.std.specs.Str.{IsUtf8}
 use Rattle.std.proofs.Math.Utf8.{encode, encodes, scalar, scalars}
 use Rattle.std.proofs.lemmas.List.{append-nil, map-append, length-map}
 use Rattle.std.proofs.lemmas.Str.{chars-encodes, encode_ascii, inside_one, encodes-chars, scalars-chars}
-use Rattle.std.proofs.lemmas.Bool.{cases_lt}
+use Rattle.std.proofs.lemmas.Bool.{cases_lt, and_parts}
 use Rattle.std.proofs.lemmas.Bool.Decides.{nat_tests}
 use Rattle.cov_text.specs.Listing.{cleaned}
 
@@ -48,14 +48,10 @@ shown_scalar c h = by (nat_lt c 32 || (c == 127))
     by true = refl
     by false = h
 
-both_true : (a b : Bool) → (a && b) ≡ true → (a ≡ true) × (b ≡ true)
-both_true true b e = (refl, e)
-both_true false b e = absurd cc
-
 shown_scalars : (cs : List ℕ) → scalars cs ≡ true → scalars (map shown cs) ≡ true
 shown_scalars [] h = refl
 shown_scalars (c ∷ cs) h =
-    let p = both_true (scalar c) (scalars cs) h in
+    let p = and_parts (scalar c) (scalars cs) h in
     ap (λ b. b && scalars (map shown cs)) (shown_scalar c p.0) ∙ shown_scalars cs p.1
 
 pub same_characters : (bs : List ℕ) → IsUtf8 bs → length (chars bs) ≡ length (chars (cleaned bs))

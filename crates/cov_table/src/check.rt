@@ -5,15 +5,13 @@ ghost use Rattle.cov_table.specs.Shares as shares;
 
 use crate::shares::{Summary, below, percent};
 use clean_text::{put, put_number};
+use cov_percent::Percent;
 use lcov_text::Share;
 use std::alloc::{AllocError, Global};
 
 /// Whether a share is below its threshold in percent.
-pub fn misses(summary: &Summary, lines: u64, branches: u64, functions: u64) -> bool
+pub fn misses(summary: &Summary, lines: Percent, branches: Percent, functions: Percent) -> bool
     requires within { IsWithin summary.now }
-    requires lines { lines ≤ 100 }
-    requires branches { branches ≤ 100 }
-    requires functions { functions ≤ 100 }
     ensures { result ≡ shares.misses summary.now lines branches functions }
 {
     below(summary.lines, lines)
@@ -29,14 +27,11 @@ pub fn misses(summary: &Summary, lines: u64, branches: u64, functions: u64) -> b
 pub fn check_text(
     alloc: Global,
     summary: &Summary,
-    lines: u64,
-    branches: u64,
-    functions: u64,
+    lines: Percent,
+    branches: Percent,
+    functions: Percent,
 ) -> Result<Vec<u8>, AllocError>
     requires within { IsWithin summary.now }
-    requires lines { lines ≤ 100 }
-    requires branches { branches ≤ 100 }
-    requires functions { functions ≤ 100 }
     ensures { IfOk result (λ text. text.items ≡ shares.check_text summary.now lines branches functions) }
 {
     let mut text = Vec::new(alloc);
@@ -52,10 +47,9 @@ fn put_missed(
     text: &mut Vec<u8>,
     word: &[u8],
     share: Share,
-    threshold: u64,
+    threshold: Percent,
 ) -> Result<(), AllocError>
-    requires share { share.hit ≤ share.all }
-    requires threshold { threshold ≤ 100 }
+    requires { share.hit ≤ share.all }
     ensures { OnOk result (text.new.items ≡ text.old.items ++ check_line word.now share threshold) }
 {
     if !below(share, threshold) {
@@ -66,6 +60,6 @@ fn put_missed(
     put(text, b" ")?;
     put(text, share.as_bytes())?;
     put(text, b" below ")?;
-    put_number(text, threshold)?;
+    put_number(text, threshold.number())?;
     put(text, b"\n")
 }

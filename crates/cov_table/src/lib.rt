@@ -12,6 +12,7 @@ mod table_rows;
 mod tests;
 
 pub use check::{check_text, misses};
+pub use cov_percent::Percent;
 pub use lcov_text::Share;
 pub use shares::{Summary, below, hundredths, summary_of};
 pub use table_rows::table_text;

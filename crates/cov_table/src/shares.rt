@@ -4,6 +4,7 @@ ghost use Rattle.cov_table.specs.Adding.{plus, both, shares_with};
 ghost use Rattle.cov_table.specs.Shares.{summary, IsWithin, is_below};
 ghost use Rattle.cov_table.specs.Shares as shares;
 
+use cov_percent::Percent;
 use istanbul_json::FileCoverage;
 use lcov_text::{LineCount, Share, branches_share, functions_share, line_counts, lines_share};
 use std::alloc::{AllocError, Global};
@@ -89,13 +90,12 @@ pub fn hundredths(share: Share) -> u64
 }
 
 /// Whether the share is below a threshold in percent. It isn't where both are equal.
-pub fn below(share: Share, threshold: u64) -> bool
-    requires share { share.hit ≤ share.all }
-    requires threshold { threshold ≤ 100 }
+pub fn below(share: Share, threshold: Percent) -> bool
+    requires { share.hit ≤ share.all }
     ensures value { result ≡ is_below share threshold }
     ensures equal { shares.hundredths share ≡ 100 * threshold → result ≡ false }
 {
-    hundredths(share) < 100 * threshold
+    hundredths(share) < 100 * threshold.number()
 }
 
 // The share in percent, with two digits behind the point.

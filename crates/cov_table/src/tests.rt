@@ -1,4 +1,6 @@
-use crate::{Share, Summary, below, check_text, hundredths, misses, summary_of, table_text};
+use crate::{
+    Percent, Share, Summary, below, check_text, hundredths, misses, summary_of, table_text,
+};
 use istanbul_json::read_coverage;
 use std::test::Fail;
 
@@ -70,6 +72,9 @@ fn writes_missed_thresholds(rt: HostRuntime) -> Result<(), Fail> {
         assert!(rt; lines <= 100 && branches <= 100 && functions <= 100);
         let files = read_coverage(rt.alloc(), json.as_bytes())?;
         let summary = summary_of(rt.alloc(), files.as_slice())?;
+        let lines = Percent::new(lines);
+        let branches = Percent::new(branches);
+        let functions = Percent::new(functions);
         let text = check_text(rt.alloc(), &summary, lines, branches, functions)?;
         assert_eq!(rt; text.as_slice(), missed.as_bytes(), "of {json}");
         let is_missed = misses(&summary, lines, branches, functions);
@@ -124,7 +129,7 @@ fn is_not_below_at_equality(rt: HostRuntime) {
     ];
     for (hit, all, threshold, expected) in cases {
         assert!(rt; hit <= all && threshold <= 100);
-        let found = below(Share { hit, all }, threshold);
+        let found = below(Share { hit, all }, Percent::new(threshold));
         assert_eq!(rt; found, expected, "{hit} of {all} at {threshold}");
     }
 }
