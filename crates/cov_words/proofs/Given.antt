@@ -1,8 +1,10 @@
 -- What words ask, by what clap finds in them.
-use Rattle.std.proofs.Common.{◌≡◌, List, [], ◌∷◌, refl, sym, ap, ◌∙◌, subst, inl, inr}
+use Rattle.std.proofs.Common.{◌≡◌, true, List, [], ◌∷◌, refl, sym, ap, ◌∙◌, subst, inl, inr}
 use Rattle.std.specs.Prelude.{Option, None, ◌⊎◌}
-use Rattle.clap.specs.Words.{App, IsAmong, Kinds, Row, Text, matches_of}
-use Rattle.clap.specs.Faults.{fault_of}
+use Rattle.clap.specs.Words.{App, IsAmong, Kinds, Row, Text, is_simple, is_simple_and_free, matches_of}
+use Rattle.clap.specs.Faults.{fault_of, is_free_app}
+use Rattle.clap.specs.Simple.{built}
+use Rattle.clap.proofs.WalkLemmas.{both}
 use Rattle.clap.specs.declared.error.kind.ErrorKind.{ErrorKind}
 use Rattle.clap.specs.declared.error.kind.ErrorKind.TheVariants.{OutOfMemory}
 use Rattle.cov_words.specs.Asked.{Finds, FindsNone, asked, unless_fault}
@@ -28,3 +30,6 @@ pub refused : (app : App) (words : List Text) (kind : ErrorKind) → (kind ≡ O
     → FindsNone app words
 refused app words kind other (inl memory) = absurd (other memory)
 refused app words kind other (inr among) = λ none. subst (λ (kinds : Kinds). IsAmong kind kinds) none among
+
+pub simple-of : (app : App) → is_simple_and_free app ≡ true → is_simple app ≡ true
+simple-of app e = (both (is_simple app) (is_free_app (built app)) e).0

@@ -1,5 +1,5 @@
 -- What the words of a command line ask for. Which words a command takes, and what values they give, is said by clap.
-use Rattle.std.specs.Prelude.{◌≡◌, ◌≤◌, ℕ, List, [], ◌∷◌, Option, None, Some, if◌then◌else◌, option_map, option_and_then, true, codes}
+use Rattle.std.specs.Prelude.{◌≡◌, ℕ, List, [], ◌∷◌, Option, None, Some, if◌then◌else◌, option_map, option_and_then, true, codes}
 use Rattle.std.specs.Str.Parse.{digits_value, without_leading_plus}
 use Rattle.cov_text.specs.Listing.{same_text}
 use Rattle.clap.specs.Words.{App, Kinds, Row, Rule, Text, first_of, one_of, matches_of, new_app, new_rule, with_rule}
@@ -124,16 +124,6 @@ make_app = with_rule (with_rule (new_app (codes "make")) (wanted_number 0 214748
 abbrev pub make_from : List Row → Option Command
 make_from rows =
     option_and_then (λ seed. option_map (λ count. Make seed count) (number_of 1 100000 (codes "count") rows)) (number_of 0 2147483647 (codes "seed") rows)
-
--- each threshold is a percentage
-abbrev pub HasPercents : Command → Type 0
-HasPercents (Merge folder) = Unit {0}
-HasPercents (Same one other) = Unit {0}
-HasPercents (Normal file) = Unit {0}
-HasPercents (Upgrade file) = Unit {0}
-HasPercents (Report folder form) = Unit {0}
-HasPercents (Check folder lines branches functions) = (lines ≤ 100) × (branches ≤ 100) × (functions ≤ 100)
-HasPercents (Make seed count) = Unit {0}
 
 -- ---- all commands
 

@@ -10,6 +10,8 @@ use Rattle.cov_words.specs.Asked.{asked, number, number_of, wanted}
 abbrev pub group_named : Text → Group
 group_named name =
     if same_text name (codes "collect") then group.Workers
+    else if same_text name (codes "serve") then group.Live
+    else if same_text name (codes "attach") then group.Live
     else if same_text name (codes "run") then group.Child
     else group.Readers
 

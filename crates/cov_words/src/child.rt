@@ -1,12 +1,13 @@
 //! Reading the words of `run`.
-ghost use Rattle.std.specs.Prelude.{◌≡◌, None, Some, false, map, string_bytes, IfOk, IfErr, ◌++◌};
-ghost use Rattle.clap.specs.Words.{all_of, app_of, found_of, rows_of, rule_of};
-ghost use Rattle.cov_words.specs.Asked.{asked};
+ghost use Rattle.std.specs.Prelude.{◌≡◌, None, Some, false, map, string_bytes, IfOk, IfErr, ⊤};
+ghost use Rattle.clap.specs.Words.{all_of, found_of, rows_of, rule_of};
 ghost use Rattle.cov_words.specs.Child.{run_app, run_from, run_of};
 ghost use Rattle.cov_words.specs.Child as spec;
+ghost use Rattle.cov_words.specs.Simple.{run_is_simple};
 
+use crate::asking::{Asking, read_asked};
 use crate::options::{form_of, option};
-use crate::reading::{matches_of, value, wanted};
+use crate::reading::{value, wanted};
 use crate::{Run, WordsFault};
 use clap::{Arg, ArgMatches};
 use cov_text::{Items, Text};
@@ -19,30 +20,18 @@ use std::alloc::{AllocError, Global};
 #[tactic(auto, unfolding(crate::specs::Child::run_of))]
 pub fn read_run(alloc: Global, words: &[String]) -> Result<Run, WordsFault>
     ensures ok { IfOk result (λ run. run_of (map string_bytes words.now) ≡ Some run) }
-    ensures usage { IfErr result (λ fault. fault ≡ WordsFault.Usage → run_of (map string_bytes words.now) ≡ None) }
+    ensures usage { IfErr result (λ fault. fault ≡ WordsFault.Usage
+        → run_of (map string_bytes words.now) ≡ None) }
 {
     match words {
         [] => Err(WordsFault::Usage),
         [name, ..] => {
             if name.as_str() == "run" {
-                read_named(alloc, words)
+                read_asked::<RunWords>(alloc, words)
             } else {
                 Err(WordsFault::Usage)
             }
         }
-    }
-}
-
-fn read_named(alloc: Global, words: &[String]) -> Result<Run, WordsFault>
-    ensures ok { IfOk result (λ run. asked run_app run_from (map string_bytes words.now) ≡ Some run) }
-    ensures usage { IfErr result (λ fault. fault ≡ WordsFault.Usage → asked run_app run_from (map string_bytes words.now) ≡ None) }
-{
-    let Ok(command) = run_command(alloc) else {
-        return Err(WordsFault::NoMemory);
-    };
-    match matches_of(command, words) {
-        Ok(matches) => run_in(alloc, &matches),
-        Err(fault) => Err(fault),
     }
 }
 
@@ -62,37 +51,47 @@ pub(crate) fn many<'a>(alloc: Global, id: &'a str) -> Arg<'a>
     wanted(alloc, id).num_args(1..)
 }
 
-fn run_command<'a>(alloc: Global) -> Result<clap::Command<'a>, AllocError>
-    ensures { IfOk result (λ command. app_of command ≡ run_app) }
-{
-    let command = clap::Command::new(alloc, "run").arg(wanted_option(alloc, "dir"))?;
-    let command = command.arg(option(alloc, "as", "text"))?;
-    command.arg(many(alloc, "word"))
-}
+/// `run --dir FOLDER --as FORM -- WORD..`.
+pub(crate) struct RunWords;
 
-fn run_in(alloc: Global, matches: &ArgMatches<'_>) -> Result<Run, WordsFault>
-    ensures ok { IfOk result (λ run. run_from (rows_of (found_of matches.now)) ≡ Some run) }
-    ensures usage { IfErr result (λ fault. fault ≡ WordsFault.Usage → run_from (rows_of (found_of matches.now)) ≡ None) }
-{
-    let folder = match value(alloc, matches, "dir") {
-        Ok(folder) => folder,
-        Err(fault) => return Err(fault),
-    };
-    let name = match value(alloc, matches, "as") {
-        Ok(name) => name,
-        Err(fault) => return Err(fault),
-    };
-    let form = match form_of(name.as_text()) {
-        Ok(form) => form,
-        Err(fault) => return Err(fault),
-    };
-    match values(alloc, matches, "word") {
-        Ok(words) => Ok(Run {
-            folder,
-            form,
-            words,
-        }),
-        Err(fault) => Err(fault),
+impl Asking for RunWords {
+    type Told = Run;
+
+    ghost app = { run_app };
+
+    ghost from = { run_from };
+
+    ghost within = { λ _. ⊤ };
+
+    ghost simple = { run_is_simple };
+
+    fn command<'a>(alloc: Global) -> Result<clap::Command<'a>, AllocError> {
+        let command = clap::Command::new(alloc, "run").arg(wanted_option(alloc, "dir"))?;
+        let command = command.arg(option(alloc, "as", "text"))?;
+        command.arg(many(alloc, "word"))
+    }
+
+    fn told(alloc: Global, matches: &ArgMatches<'_>) -> Result<Run, WordsFault> {
+        let folder = match value(alloc, matches, "dir") {
+            Ok(folder) => folder,
+            Err(fault) => return Err(fault),
+        };
+        let name = match value(alloc, matches, "as") {
+            Ok(name) => name,
+            Err(fault) => return Err(fault),
+        };
+        let form = match form_of(name.as_text()) {
+            Ok(form) => form,
+            Err(fault) => return Err(fault),
+        };
+        match values(alloc, matches, "word") {
+            Ok(words) => Ok(Run {
+                folder,
+                form,
+                words,
+            }),
+            Err(fault) => Err(fault),
+        }
     }
 }
 

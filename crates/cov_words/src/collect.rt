@@ -1,12 +1,12 @@
 //! Reading the words of `collect`, and which call reads which words.
-ghost use Rattle.std.specs.Prelude.{◌≡◌, None, Some, false, map, string_bytes, IfOk, IfErr};
-ghost use Rattle.clap.specs.Words.{app_of, found_of, rows_of, rule_of};
-ghost use Rattle.cov_words.specs.Asked.{asked};
+ghost use Rattle.std.specs.Prelude.{◌≡◌, None, Some, map, string_bytes, IfOk, IfErr};
 ghost use Rattle.cov_words.specs.Groups.{HasWorkers, collect_app, collect_from, collect_of};
 ghost use Rattle.cov_words.specs.Groups as spec;
+ghost use Rattle.cov_words.specs.Simple.{collect_is_simple};
 
+use crate::asking::{Asking, read_asked};
 use crate::options::{number, number_in};
-use crate::reading::{matches_of, value, wanted};
+use crate::reading::{value, wanted};
 use crate::{Collect, Group, WordsFault};
 use clap::ArgMatches;
 use std::alloc::{AllocError, Global};
@@ -26,6 +26,10 @@ fn group_named(name: &str) -> Group
 {
     if name == "collect" {
         Group::Workers
+    } else if name == "serve" {
+        Group::Live
+    } else if name == "attach" {
+        Group::Live
     } else if name == "run" {
         Group::Child
     } else {
@@ -40,14 +44,15 @@ fn group_named(name: &str) -> Group
 #[tactic(auto, unfolding(crate::specs::Groups::collect_of))]
 pub fn read_collect(alloc: Global, words: &[String]) -> Result<Collect, WordsFault>
     ensures ok { IfOk result (λ collect. collect_of (map string_bytes words.now) ≡ Some collect) }
-    ensures usage { IfErr result (λ fault. fault ≡ WordsFault.Usage → collect_of (map string_bytes words.now) ≡ None) }
+    ensures usage { IfErr result (λ fault. fault ≡ WordsFault.Usage
+        → collect_of (map string_bytes words.now) ≡ None) }
     ensures workers { IfOk result HasWorkers }
 {
     match words {
         [] => Err(WordsFault::Usage),
         [name, ..] => {
             if name.as_str() == "collect" {
-                read_named(alloc, words)
+                read_asked::<CollectWords>(alloc, words)
             } else {
                 Err(WordsFault::Usage)
             }
@@ -55,41 +60,36 @@ pub fn read_collect(alloc: Global, words: &[String]) -> Result<Collect, WordsFau
     }
 }
 
-fn read_named(alloc: Global, words: &[String]) -> Result<Collect, WordsFault>
-    ensures ok { IfOk result (λ collect. asked collect_app collect_from (map string_bytes words.now) ≡ Some collect) }
-    ensures usage { IfErr result (λ fault. fault ≡ WordsFault.Usage → asked collect_app collect_from (map string_bytes words.now) ≡ None) }
-    ensures workers { IfOk result HasWorkers }
-{
-    let Ok(command) = collect_command(alloc) else {
-        return Err(WordsFault::NoMemory);
-    };
-    match matches_of(command, words) {
-        Ok(matches) => collect_in(alloc, &matches),
-        Err(fault) => Err(fault),
+/// `collect FOLDER --workers N`.
+pub(crate) struct CollectWords;
+
+impl Asking for CollectWords {
+    type Told = Collect;
+
+    ghost app = { collect_app };
+
+    ghost from = { collect_from };
+
+    ghost within = { HasWorkers };
+
+    ghost simple = { collect_is_simple };
+
+    fn command<'a>(alloc: Global) -> Result<clap::Command<'a>, AllocError> {
+        let command = clap::Command::new(alloc, "collect").arg(wanted(alloc, "folder"))?;
+        command.arg(number(alloc, "workers", 1, 16, "4"))
     }
-}
 
-fn collect_command<'a>(alloc: Global) -> Result<clap::Command<'a>, AllocError>
-    ensures { IfOk result (λ command. app_of command ≡ collect_app) }
-{
-    let command = clap::Command::new(alloc, "collect").arg(wanted(alloc, "folder"))?;
-    command.arg(number(alloc, "workers", 1, 16, "4"))
-}
-
-fn collect_in(alloc: Global, matches: &ArgMatches<'_>) -> Result<Collect, WordsFault>
-    ensures ok { IfOk result (λ collect. collect_from (rows_of (found_of matches.now)) ≡ Some collect) }
-    ensures usage { IfErr result (λ fault. fault ≡ WordsFault.Usage → collect_from (rows_of (found_of matches.now)) ≡ None) }
-    ensures workers { IfOk result HasWorkers }
-{
-    let folder = match value(alloc, matches, "folder") {
-        Ok(folder) => folder,
-        Err(fault) => return Err(fault),
-    };
-    match number_in(matches, "workers", 1, 16) {
-        Ok(workers) => Ok(Collect {
-            folder,
-            workers: workers as u32,
-        }),
-        Err(fault) => Err(fault),
+    fn told(alloc: Global, matches: &ArgMatches<'_>) -> Result<Collect, WordsFault> {
+        let folder = match value(alloc, matches, "folder") {
+            Ok(folder) => folder,
+            Err(fault) => return Err(fault),
+        };
+        match number_in(matches, "workers", 1, 16) {
+            Ok(workers) => Ok(Collect {
+                folder,
+                workers: workers as u32,
+            }),
+            Err(fault) => Err(fault),
+        }
     }
 }

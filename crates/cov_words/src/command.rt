@@ -1,4 +1,5 @@
 //! What a command line can ask for.
+use cov_percent::Percent;
 use cov_text::{Items, Text};
 
 /// A command with its words.
@@ -26,12 +27,12 @@ pub enum Command {
         folder: Text,
         form: Form,
     },
-    /// `check FOLDER --lines N --branches N --functions N`: what of a folder's texts was run less than these percents.
+    /// `check FOLDER --lines N --branches N --functions N`: what of a folder's texts was run less than these percentages.
     Check {
         folder: Text,
-        lines: u64,
-        branches: u64,
-        functions: u64,
+        lines: Percent,
+        branches: Percent,
+        functions: Percent,
     },
     /// `make SEED COUNT`: what so many snapshots made of a seed come to. The seed is at most 2,147,483,647; there is one
     /// snapshot at least, and 100,000 at most.
@@ -94,6 +95,8 @@ pub enum Group {
     Readers,
     /// `collect`, which works in threads.
     Workers,
+    /// `serve` and `attach`, which speak over links.
+    Live,
     /// `run`, which starts a program.
     Child,
 }

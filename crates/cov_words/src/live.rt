@@ -1,12 +1,12 @@
 //! Reading the words of `serve` and `attach`.
 ghost use Rattle.std.specs.Prelude.{◌≡◌, None, Some, map, string_bytes, IfOk, IfErr};
-ghost use Rattle.clap.specs.Words.{app_of, found_of, rows_of};
-ghost use Rattle.cov_words.specs.Asked.{asked};
 ghost use Rattle.cov_words.specs.Live.{HasBounds, attach_app, attach_from, live_of, serve_app, serve_from};
+ghost use Rattle.cov_words.specs.Simple.{attach_is_simple, serve_is_simple};
 
+use crate::asking::{Asking, read_asked};
 use crate::child::{many, values};
 use crate::options::{number, number_in};
-use crate::reading::{matches_of, value, wanted};
+use crate::reading::{value, wanted};
 use crate::{Live, WordsFault};
 use clap::ArgMatches;
 use std::alloc::{AllocError, Global};
@@ -18,7 +18,8 @@ use std::alloc::{AllocError, Global};
 #[tactic(auto, unfolding(crate::specs::Live::live_of))]
 pub fn read_live(alloc: Global, words: &[String]) -> Result<Live, WordsFault>
     ensures ok { IfOk result (λ live. live_of (map string_bytes words.now) ≡ Some live) }
-    ensures usage { IfErr result (λ fault. fault ≡ WordsFault.Usage → live_of (map string_bytes words.now) ≡ None) }
+    ensures usage { IfErr result (λ fault. fault ≡ WordsFault.Usage
+        → live_of (map string_bytes words.now) ≡ None) }
     ensures bounds { IfOk result HasBounds }
 {
     match words {
@@ -26,9 +27,9 @@ pub fn read_live(alloc: Global, words: &[String]) -> Result<Live, WordsFault>
         [name, ..] => {
             let name = name.as_str();
             if name == "serve" {
-                read_serve(alloc, words)
+                read_asked::<ServeWords>(alloc, words)
             } else if name == "attach" {
-                read_attach(alloc, words)
+                read_asked::<AttachWords>(alloc, words)
             } else {
                 Err(WordsFault::Usage)
             }
@@ -36,92 +37,82 @@ pub fn read_live(alloc: Global, words: &[String]) -> Result<Live, WordsFault>
     }
 }
 
-fn serve_command<'a>(alloc: Global) -> Result<clap::Command<'a>, AllocError>
-    ensures { IfOk result (λ command. app_of command ≡ serve_app) }
-{
-    let command = clap::Command::new(alloc, "serve").arg(wanted(alloc, "folder"))?;
-    let command = command.arg(number(alloc, "port", 0, 65535, "0"))?;
-    let command = command.arg(number(alloc, "sessions", 1, 64, "1"))?;
-    command.arg(number(alloc, "pace", 0, 1000, "1"))
-}
+/// `serve FOLDER --port P --sessions N --pace K`.
+pub(crate) struct ServeWords;
 
-fn serve_in(alloc: Global, matches: &ArgMatches<'_>) -> Result<Live, WordsFault>
-    ensures ok { IfOk result (λ live. serve_from (rows_of (found_of matches.now)) ≡ Some live) }
-    ensures usage { IfErr result (λ fault. fault ≡ WordsFault.Usage → serve_from (rows_of (found_of matches.now)) ≡ None) }
-    ensures bounds { IfOk result HasBounds }
-{
-    let folder = match value(alloc, matches, "folder") {
-        Ok(folder) => folder,
-        Err(fault) => return Err(fault),
-    };
-    let port = match number_in(matches, "port", 0, 65535) {
-        Ok(port) => port,
-        Err(fault) => return Err(fault),
-    };
-    let sessions = match number_in(matches, "sessions", 1, 64) {
-        Ok(sessions) => sessions,
-        Err(fault) => return Err(fault),
-    };
-    match number_in(matches, "pace", 0, 1000) {
-        Ok(pace) => Ok(Live::Serve {
-            folder,
-            port: port as u16,
-            sessions: sessions as u32,
-            pace: pace as u32,
-        }),
-        Err(fault) => Err(fault),
+impl Asking for ServeWords {
+    type Told = Live;
+
+    ghost app = { serve_app };
+
+    ghost from = { serve_from };
+
+    ghost within = { HasBounds };
+
+    ghost simple = { serve_is_simple };
+
+    fn command<'a>(alloc: Global) -> Result<clap::Command<'a>, AllocError> {
+        let command = clap::Command::new(alloc, "serve").arg(wanted(alloc, "folder"))?;
+        let command = command.arg(number(alloc, "port", 0, 65535, "0"))?;
+        let command = command.arg(number(alloc, "sessions", 1, 64, "1"))?;
+        command.arg(number(alloc, "pace", 0, 1000, "1"))
+    }
+
+    fn told(alloc: Global, matches: &ArgMatches<'_>) -> Result<Live, WordsFault> {
+        let folder = match value(alloc, matches, "folder") {
+            Ok(folder) => folder,
+            Err(fault) => return Err(fault),
+        };
+        let port = match number_in(matches, "port", 0, 65535) {
+            Ok(port) => port,
+            Err(fault) => return Err(fault),
+        };
+        let sessions = match number_in(matches, "sessions", 1, 64) {
+            Ok(sessions) => sessions,
+            Err(fault) => return Err(fault),
+        };
+        match number_in(matches, "pace", 0, 1000) {
+            Ok(pace) => Ok(Live::Serve {
+                folder,
+                port: port as u16,
+                sessions: sessions as u32,
+                pace: pace as u32,
+            }),
+            Err(fault) => Err(fault),
+        }
     }
 }
 
-fn read_serve(alloc: Global, words: &[String]) -> Result<Live, WordsFault>
-    ensures ok { IfOk result (λ live. asked serve_app serve_from (map string_bytes words.now) ≡ Some live) }
-    ensures usage { IfErr result (λ fault. fault ≡ WordsFault.Usage → asked serve_app serve_from (map string_bytes words.now) ≡ None) }
-    ensures bounds { IfOk result HasBounds }
-{
-    let Ok(command) = serve_command(alloc) else {
-        return Err(WordsFault::NoMemory);
-    };
-    match matches_of(command, words) {
-        Ok(matches) => serve_in(alloc, &matches),
-        Err(fault) => Err(fault),
+/// `attach PLACE.. --takes N`.
+pub(crate) struct AttachWords;
+
+impl Asking for AttachWords {
+    type Told = Live;
+
+    ghost app = { attach_app };
+
+    ghost from = { attach_from };
+
+    ghost within = { HasBounds };
+
+    ghost simple = { attach_is_simple };
+
+    fn command<'a>(alloc: Global) -> Result<clap::Command<'a>, AllocError> {
+        let command = clap::Command::new(alloc, "attach").arg(many(alloc, "place"))?;
+        command.arg(number(alloc, "takes", 1, 1000, "1"))
     }
-}
 
-fn attach_command<'a>(alloc: Global) -> Result<clap::Command<'a>, AllocError>
-    ensures { IfOk result (λ command. app_of command ≡ attach_app) }
-{
-    let command = clap::Command::new(alloc, "attach").arg(many(alloc, "place"))?;
-    command.arg(number(alloc, "takes", 1, 1000, "1"))
-}
-
-fn attach_in(alloc: Global, matches: &ArgMatches<'_>) -> Result<Live, WordsFault>
-    ensures ok { IfOk result (λ live. attach_from (rows_of (found_of matches.now)) ≡ Some live) }
-    ensures usage { IfErr result (λ fault. fault ≡ WordsFault.Usage → attach_from (rows_of (found_of matches.now)) ≡ None) }
-    ensures bounds { IfOk result HasBounds }
-{
-    let places = match values(alloc, matches, "place") {
-        Ok(places) => places,
-        Err(fault) => return Err(fault),
-    };
-    match number_in(matches, "takes", 1, 1000) {
-        Ok(takes) => Ok(Live::Attach {
-            places,
-            takes: takes as u32,
-        }),
-        Err(fault) => Err(fault),
-    }
-}
-
-fn read_attach(alloc: Global, words: &[String]) -> Result<Live, WordsFault>
-    ensures ok { IfOk result (λ live. asked attach_app attach_from (map string_bytes words.now) ≡ Some live) }
-    ensures usage { IfErr result (λ fault. fault ≡ WordsFault.Usage → asked attach_app attach_from (map string_bytes words.now) ≡ None) }
-    ensures bounds { IfOk result HasBounds }
-{
-    let Ok(command) = attach_command(alloc) else {
-        return Err(WordsFault::NoMemory);
-    };
-    match matches_of(command, words) {
-        Ok(matches) => attach_in(alloc, &matches),
-        Err(fault) => Err(fault),
+    fn told(alloc: Global, matches: &ArgMatches<'_>) -> Result<Live, WordsFault> {
+        let places = match values(alloc, matches, "place") {
+            Ok(places) => places,
+            Err(fault) => return Err(fault),
+        };
+        match number_in(matches, "takes", 1, 1000) {
+            Ok(takes) => Ok(Live::Attach {
+                places,
+                takes: takes as u32,
+            }),
+            Err(fault) => Err(fault),
+        }
     }
 }

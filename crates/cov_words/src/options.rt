@@ -1,14 +1,17 @@
 //! Reading the words of commands that have options.
-ghost use Rattle.std.specs.Prelude.{◌≡◌, ◌≤◌, None, Some, false, codes, map, string_bytes, IfOk, IfErr};
-ghost use Rattle.clap.specs.Words.{app_of, found_of, rows_of, rule_of};
+ghost use Rattle.std.specs.Prelude.{◌≡◌, ◌≤◌, None, Some, false, IfOk, IfErr, ⊤};
+ghost use Rattle.clap.specs.Words.{found_of, rows_of, rule_of};
 ghost use Rattle.clap.specs.declared.builder.value_parser.ValueParser.TheVariants.{Unsigned};
 ghost use Rattle.cov_words.specs.Asked as spec;
-ghost use Rattle.cov_words.specs.Asked.{HasPercents, asked, check_app, check_from, form_named, number_of, report_app, report_from};
+ghost use Rattle.cov_words.specs.Asked.{check_app, check_from, form_named, number_of, report_app, report_from};
+ghost use Rattle.cov_words.specs.Simple.{check_is_simple, report_is_simple};
 
-use crate::reading::{parsed, value, wanted};
+use crate::asking::Asking;
+use crate::reading::{value, wanted};
 use crate::{Command, Form, WordsFault};
 use clap::builder::ValueParser;
 use clap::{Arg, ArgMatches};
+use cov_percent::Percent;
 use std::alloc::{AllocError, Global};
 
 /// An option that has this value where it isn't given.
@@ -55,8 +58,10 @@ pub(crate) fn number_in(
     least: u64,
     most: u64,
 ) -> Result<u64, WordsFault>
-    ensures ok { IfOk result (λ n. number_of least most name.now (rows_of (found_of matches.now)) ≡ Some n) }
-    ensures usage { IfErr result (λ fault. fault ≡ WordsFault.Usage → number_of least most name.now (rows_of (found_of matches.now)) ≡ None) }
+    ensures ok { IfOk result (λ n. number_of least most name.now (rows_of (found_of matches.now))
+        ≡ Some n) }
+    ensures usage { IfErr result (λ fault. fault ≡ WordsFault.Usage
+        → number_of least most name.now (rows_of (found_of matches.now)) ≡ None) }
     ensures within { IfOk result (λ n. (least ≤ n) × (n ≤ most)) }
 {
     let Some(number) = matches.get_one::<u64>(name) else {
@@ -87,97 +92,83 @@ pub(crate) fn form_of(name: &str) -> Result<Form, WordsFault>
     }
 }
 
-// ---- each command: how `clap` knows it, and what is read of its matches
-
-fn report_command<'a>(alloc: Global) -> Result<clap::Command<'a>, AllocError>
-    ensures { IfOk result (λ command. app_of command ≡ report_app) }
-{
-    let command = clap::Command::new(alloc, "report").arg(wanted(alloc, "folder"))?;
-    command.arg(option(alloc, "as", "text"))
-}
-
-fn report_in(alloc: Global, matches: &ArgMatches<'_>) -> Result<Command, WordsFault>
-    ensures ok { IfOk result (λ command. report_from (rows_of (found_of matches.now)) ≡ Some command) }
-    ensures usage { IfErr result (λ fault. fault ≡ WordsFault.Usage → report_from (rows_of (found_of matches.now)) ≡ None) }
-    ensures percents { IfOk result HasPercents }
-{
-    let folder = match value(alloc, matches, "folder") {
-        Ok(folder) => folder,
-        Err(fault) => return Err(fault),
-    };
-    let name = match value(alloc, matches, "as") {
-        Ok(name) => name,
-        Err(fault) => return Err(fault),
-    };
-    match form_of(name.as_text()) {
-        Ok(form) => Ok(Command::Report { folder, form }),
-        Err(fault) => Err(fault),
-    }
-}
-
 /// `report FOLDER --as FORM`, where the form is `json`, `lcov` or `text`, and `text` where it isn't given.
-pub fn read_report(alloc: Global, words: &[String]) -> Result<Command, WordsFault>
-    ensures ok { IfOk result (λ command. asked report_app report_from (map string_bytes words.now) ≡ Some command) }
-    ensures usage { IfErr result (λ fault. fault ≡ WordsFault.Usage → asked report_app report_from (map string_bytes words.now) ≡ None) }
-    ensures percents { IfOk result HasPercents }
-{
-    let Ok(command) = report_command(alloc) else {
-        return Err(WordsFault::NoMemory);
-    };
-    match parsed(command, words) {
-        Ok(matches) => report_in(alloc, &matches),
-        Err(fault) => Err(fault),
+pub(crate) struct ReportWords;
+
+impl Asking for ReportWords {
+    type Told = Command;
+
+    ghost app = { report_app };
+
+    ghost from = { report_from };
+
+    ghost within = { λ _. ⊤ };
+
+    ghost simple = { report_is_simple };
+
+    fn command<'a>(alloc: Global) -> Result<clap::Command<'a>, AllocError> {
+        let command = clap::Command::new(alloc, "report").arg(wanted(alloc, "folder"))?;
+        command.arg(option(alloc, "as", "text"))
     }
-}
 
-fn check_command<'a>(alloc: Global) -> Result<clap::Command<'a>, AllocError>
-    ensures { IfOk result (λ command. app_of command ≡ check_app) }
-{
-    let command = clap::Command::new(alloc, "check").arg(wanted(alloc, "folder"))?;
-    let command = command.arg(percent(alloc, "lines"))?;
-    let command = command.arg(percent(alloc, "branches"))?;
-    command.arg(percent(alloc, "functions"))
-}
-
-fn check_in(alloc: Global, matches: &ArgMatches<'_>) -> Result<Command, WordsFault>
-    ensures ok { IfOk result (λ command. check_from (rows_of (found_of matches.now)) ≡ Some command) }
-    ensures usage { IfErr result (λ fault. fault ≡ WordsFault.Usage → check_from (rows_of (found_of matches.now)) ≡ None) }
-    ensures percents { IfOk result HasPercents }
-{
-    let folder = match value(alloc, matches, "folder") {
-        Ok(folder) => folder,
-        Err(fault) => return Err(fault),
-    };
-    let lines = match number_in(matches, "lines", 0, 100) {
-        Ok(lines) => lines,
-        Err(fault) => return Err(fault),
-    };
-    let branches = match number_in(matches, "branches", 0, 100) {
-        Ok(branches) => branches,
-        Err(fault) => return Err(fault),
-    };
-    match number_in(matches, "functions", 0, 100) {
-        Ok(functions) => Ok(Command::Check {
-            folder,
-            lines,
-            branches,
-            functions,
-        }),
-        Err(fault) => Err(fault),
+    fn told(alloc: Global, matches: &ArgMatches<'_>) -> Result<Command, WordsFault> {
+        let folder = match value(alloc, matches, "folder") {
+            Ok(folder) => folder,
+            Err(fault) => return Err(fault),
+        };
+        let name = match value(alloc, matches, "as") {
+            Ok(name) => name,
+            Err(fault) => return Err(fault),
+        };
+        match form_of(name.as_text()) {
+            Ok(form) => Ok(Command::Report { folder, form }),
+            Err(fault) => Err(fault),
+        }
     }
 }
 
 /// `check FOLDER --lines N --branches N --functions N`, each from 0 to 100, and 0 where it isn't given.
-pub fn read_check(alloc: Global, words: &[String]) -> Result<Command, WordsFault>
-    ensures ok { IfOk result (λ command. asked check_app check_from (map string_bytes words.now) ≡ Some command) }
-    ensures usage { IfErr result (λ fault. fault ≡ WordsFault.Usage → asked check_app check_from (map string_bytes words.now) ≡ None) }
-    ensures percents { IfOk result HasPercents }
-{
-    let Ok(command) = check_command(alloc) else {
-        return Err(WordsFault::NoMemory);
-    };
-    match parsed(command, words) {
-        Ok(matches) => check_in(alloc, &matches),
-        Err(fault) => Err(fault),
+pub(crate) struct CheckWords;
+
+impl Asking for CheckWords {
+    type Told = Command;
+
+    ghost app = { check_app };
+
+    ghost from = { check_from };
+
+    ghost within = { λ _. ⊤ };
+
+    ghost simple = { check_is_simple };
+
+    fn command<'a>(alloc: Global) -> Result<clap::Command<'a>, AllocError> {
+        let command = clap::Command::new(alloc, "check").arg(wanted(alloc, "folder"))?;
+        let command = command.arg(percent(alloc, "lines"))?;
+        let command = command.arg(percent(alloc, "branches"))?;
+        command.arg(percent(alloc, "functions"))
+    }
+
+    fn told(alloc: Global, matches: &ArgMatches<'_>) -> Result<Command, WordsFault> {
+        let folder = match value(alloc, matches, "folder") {
+            Ok(folder) => folder,
+            Err(fault) => return Err(fault),
+        };
+        let lines = match number_in(matches, "lines", 0, 100) {
+            Ok(lines) => lines,
+            Err(fault) => return Err(fault),
+        };
+        let branches = match number_in(matches, "branches", 0, 100) {
+            Ok(branches) => branches,
+            Err(fault) => return Err(fault),
+        };
+        match number_in(matches, "functions", 0, 100) {
+            Ok(functions) => Ok(Command::Check {
+                folder,
+                lines: Percent::new(lines),
+                branches: Percent::new(branches),
+                functions: Percent::new(functions),
+            }),
+            Err(fault) => Err(fault),
+        }
     }
 }

@@ -1,8 +1,7 @@
 use Rattle.std.proofs.Common.{◌∙◌}
 use Rattle.std.specs.Prelude.{map, string_bytes}
 use Rattle.clap.specs.Words.{app_of, kind_of}
-use Rattle.cov_words.proofs.Given.{refused}
-use Rattle.cov_words.proofs.Simple.{simple-of}
+use Rattle.cov_words.proofs.Given.{refused, simple-of}
 use Rattle.cov_words.proofs.reading.matches_of.Goals as goal
 
 pub returns-in-Ok-clause-ok : goal.returns-in-Ok-clause-ok
