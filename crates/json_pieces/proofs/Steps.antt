@@ -138,6 +138,10 @@ hands-part text all now full a b fault same w =
 pub hands-of : (x y : List ℕ) (a b : OutAt) (kept now : List ℕ) (result : Result (Unit {0}) SinkFault) → x ≡ y → Hands x a b kept now result → Hands y a b kept now result
 hands-of x y a b kept now result same h = subst (λ t. Hands t a b kept now result) same h
 
+-- behind the same, told otherwise
+pub hands-behind : (text : List ℕ) (a b : OutAt) (kept other now : List ℕ) (result : Result (Unit {0}) SinkFault) → kept ≡ other → Hands text a b kept now result → Hands text a b other now result
+hands-behind text a b kept other now result same h = subst (λ k. Hands text a b k now result) same h
+
 -- nothing is handed over yet
 pub hands-none : (text : List ℕ) (at : OutAt) (kept now : List ℕ) → now ≡ kept ++ text → Hands text at at kept now (Ok tt)
 hands-none text at kept now is = record {
@@ -244,6 +248,26 @@ waits-stops all rest x y left a b c d kept middle first second now fault w is gr
     waits-last all rest a b d kept middle now (Err fault) w (subst (λ t. Hands t b d middle now (Err fault)) (sym is)
     (hands-join x (y ++ left) b b d middle first now (Err fault) (hands-none x b middle first grown)
     (hands-join y left b c d first second now (Err fault) h (hands-stops [] left c d second now now fault k))))
+
+-- one more part of the rest is put
+pub waits-part : {all y : List ℕ} {a b c : OutAt} {kept middle now : List ℕ} (x left : List ℕ) → y ≡ x → Waits all (x ++ left) a b kept middle
+    → Hands y b c middle now (Ok tt) → Waits all left a c kept now
+waits-part {all} {y} {a} {b} {c} {kept} {middle} {now} x left same w h = record {
+  done = w.done ++ x;
+  split = append_assoc w.done x left ∙ w.split;
+  hands = hands-join w.done x a b c kept middle now (Ok tt) w.hands (hands-of y x b c middle now (Ok tt) same h);
+}
+
+-- one more part of the rest is not put whole
+pub waits-fails : {all y : List ℕ} {a b c : OutAt} {kept middle now : List ℕ} {fault : SinkFault} (x left : List ℕ) → y ≡ x → Waits all (x ++ left) a b kept middle
+    → Hands y b c middle now (Err fault) → Hands all a c kept now (Err fault)
+waits-fails {all} {y} {a} {b} {c} {kept} {middle} {now} {fault} x left same w h =
+    waits-last all (x ++ left) a b c kept middle now (Err fault) w (hands-stops x left b c middle now now fault (hands-of y x b c middle now (Err fault) same h))
+
+-- nothing is left
+pub waits-done : (all rest : List ℕ) (a b : OutAt) (kept now : List ℕ) → Waits all rest a b kept now → rest ≡ [] → Hands all a b kept now (Ok tt)
+waits-done all rest a b kept now w none =
+    subst (λ t. Hands t a b kept now (Ok tt)) (sym (append-nil w.done) ∙ ap (λ t. w.done ++ t) (sym none) ∙ w.split) w.hands
 
 -- ---- the whole
 

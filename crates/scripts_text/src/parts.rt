@@ -1,18 +1,10 @@
-//! What stands before, between and behind the lists of the text.
+//! What stands before and behind the lists of the text.
 ghost use Rattle.std.specs.Prelude.{◌≡◌, ◌++◌, OnOk, decimal};
-ghost use Rattle.serde_json.specs.Written.{comma_if};
 ghost use Rattle.scripts_text.specs.Parts.{range_text, before_ranges, behind_name, behind_functions};
 
 use cov_model::{Entry, FunctionReport, Range};
 use json_pieces::{put, put_number, put_quoted, put_string};
 use std::alloc::{AllocError, Global};
-
-// A comma, where something stands before.
-pub fn put_comma(text: &mut Vec<u8>, later: bool) -> Result<(), AllocError>
-    ensures { OnOk result (text.new.items ≡ text.old.items ++ comma_if later) }
-{
-    if later { put(text, b",") } else { Ok(()) }
-}
 
 pub fn put_range(text: &mut Vec<u8>, range: &Range) -> Result<(), AllocError>
     ensures { OnOk result (text.new.items ≡ text.old.items ++ range_text range.now) }

@@ -1,6 +1,6 @@
 use Rattle.std.proofs.Common.{◌++◌, codes, decimal, ap, ◌∙◌}
 use Rattle.std.proofs.lemmas.Result.{on_ok_weaker}
-use Rattle.scripts_text.proofs.Texts.{four-puts}
+use Rattle.json_pieces.proofs.Texts.{four-puts}
 use Rattle.scripts_text.proofs.parts.put_range.Goals as goal
 
 pub returns : goal.returns

@@ -2,7 +2,7 @@ use Rattle.std.proofs.lemmas.Result.{err_from_is_err_and}
 use Rattle.json_pieces.proofs.Steps.{hands-of, hands-none, hands-short}
 use Rattle.scripts_text.specs.Parts.{range_text}
 use Rattle.scripts_text.proofs.Texts.{range-text}
-use Rattle.scripts_text.proofs.writing.RangeShown.write.Goals as goal
+use Rattle.scripts_text.proofs.writing.RangePartElement.write.Goals as goal
 
 pub returns-in_err-put_range : goal.returns-in_err-put_range
 returns-in_err-put_range g c =
