@@ -208,6 +208,12 @@ module _ {A : Type 0} (cmp : A → A → Ordering) (total : IsTotalOrder cmp) wh
   apart-strict [] h = tt
   apart-strict (x ∷ xs) h = (all-map (λ y e. ap is_eq e) xs h.0, apart-strict xs h.1)
 
+  -- placed by this order itself
+  strict-placed : (xs : List A) → AreApart xs → IsStrict (placed cmp xs)
+  strict-placed [] h = tt
+  strict-placed (x ∷ xs) h =
+      subst IsStrict (sym (same-place cmp (λ x y e. e) x (placed cmp xs) (all-placed cmp _ xs h.0))) (strict-insert x (placed cmp xs) (strict-placed xs h.1))
+
   none-less : (x : A) (xs : List A) → AllByRecursion (λ y. cmp x y ≡ Less) xs → list_all (λ y. not (less y x)) xs ≡ true
   none-less x [] h = refl
   none-less x (y ∷ ys) h =
@@ -225,6 +231,11 @@ module _ {A : Type 0} (cmp : A → A → Ordering) (total : IsTotalOrder cmp) wh
   sort-is xs ys apart up stable =
       sorted.one_order less ranks ys (in_order cmp xs) (sorted.rising-sorted less ranks ys up) (rising-strict (in_order cmp xs) (strict-in_order xs))
       (λ z. stable z ∙ sym (filter-in_order z xs apart))
+
+  pub sort-places : (xs ys : List A) → AreApart xs → IsSortedBy less ys → IsStableBy less xs ys → ys ≡ placed cmp xs
+  sort-places xs ys apart up stable =
+      sorted.one_order less ranks ys (placed cmp xs) (sorted.rising-sorted less ranks ys up) (rising-strict (placed cmp xs) (strict-placed xs apart))
+      (λ z. stable z ∙ sym (filter-placed cmp (λ x y e. e) z xs apart))
 
   -- a list in order stays
   pub in_order-twice : (xs : List A) → in_order cmp (in_order cmp xs) ≡ in_order cmp xs

@@ -30,7 +30,7 @@ use Rattle.istanbul_json.specs.Gives.{ArePathsInOrder}
 use Rattle.istanbul_json.specs.Kept.{by_key}
 use Rattle.istanbul_json.specs.Members.{mark_of, loc_of, function_of, branch_of, path_as}
 use Rattle.istanbul_json.specs.Small.{IsSmall, IsSmallMark, IsSmallLoc, IsSmallFunction, IsSmallBranch, IsReadable}
-use Rattle.istanbul_json.specs.Value.{count_data, mark_data, loc_data, function_data, branch_data, members_by, file_data}
+use Rattle.istanbul_json.specs.Value.{count_data, mark_data, loc_data, function_data, branch_data, members_by, in_turn, file_data}
 use Rattle.istanbul_json.proofs.Inserted.{placed, all-placed, all-map, strict-in_order, IsStrict, list_all-placed}
 use Rattle.istanbul_json.proofs.KeyOrder.{bytes_cmp, by_key-placed, text-total, same-key}
 
@@ -90,11 +90,6 @@ branch-back b h = by b.line h.2
 
 -- ---- members
 
--- a member for each element, as they stand
-abbrev in_turn : {A : Type 0} → (A → List ℕ) → (A → Data) → List A → Members
-in_turn key shown [] = no_members
-in_turn key shown (x ∷ xs) = member (key x) (shown x) (in_turn key shown xs)
-
 put-in-turn : {A : Type 0} (key : A → List ℕ) (shown : A → Data) (x : A) (ys : List A) → put (key x) (shown x) (in_turn key shown ys) ≡ in_turn key shown (replace_key (bytes_cmp key) ys x)
 put-in-turn key shown x [] = refl
 put-in-turn key shown x (y ∷ ys) =
@@ -106,7 +101,7 @@ put-in-turn key shown x (y ∷ ys) =
       | Greater ↦ λ e. ap (member (key y) (shown y)) (put-in-turn key shown x ys)
     ] refl
 
-members-placed : {A : Type 0} (key : A → List ℕ) (shown : A → Data) (xs : List A) → members_by key shown xs ≡ in_turn key shown (placed (bytes_cmp key) xs)
+pub members-placed : {A : Type 0} (key : A → List ℕ) (shown : A → Data) (xs : List A) → members_by key shown xs ≡ in_turn key shown (placed (bytes_cmp key) xs)
 members-placed key shown [] = refl
 members-placed key shown (x ∷ xs) = ap (put (key x) (shown x)) (members-placed key shown xs) ∙ put-in-turn key shown x (placed (bytes_cmp key) xs)
 
@@ -222,7 +217,7 @@ put-first key shown x [] h = refl
 put-first key shown x (y ∷ ys) h =
     ap (λ o. match_ordering o (member (key x) (shown x) (member (key y) (shown y) (in_turn key shown ys))) (member (key y) (shown x) (in_turn key shown ys)) (member (key y) (shown y) (put (key x) (shown x) (in_turn key shown ys)))) h.0
 
-members-rising : {A : Type 0} (key : A → List ℕ) (shown : A → Data) (xs : List A) → IsStrict text_cmp text-total (map key xs) → members_by key shown xs ≡ in_turn key shown xs
+pub members-rising : {A : Type 0} (key : A → List ℕ) (shown : A → Data) (xs : List A) → IsStrict text_cmp text-total (map key xs) → members_by key shown xs ≡ in_turn key shown xs
 members-rising key shown [] h = refl
 members-rising key shown (x ∷ xs) h = ap (put (key x) (shown x)) (members-rising key shown xs h.1) ∙ put-first key shown x xs h.0
 
