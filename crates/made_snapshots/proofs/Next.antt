@@ -1,10 +1,9 @@
 -- One made snapshot more, and the bounds of its numbers.
-use Rattle.std.proofs.Common.{◌≡◌, ℕ, zero, suc, ◌+◌, ◌*◌, ◌%◌, ◌<◌, List, [], ◌∷◌, ◌++◌, map, refl, sym, ap, ◌∙◌, arith, add-one}
-use Rattle.std.proofs.Math.Nat.{mod-lt}
+use Rattle.std.proofs.Common.{◌≡◌, ℕ, zero, suc, ◌+◌, ◌*◌, [], ◌∷◌, ◌++◌, map, refl, ap, ◌∙◌, arith, add-one}
 use Rattle.std.proofs.lemmas.List.{map-append}
 use Rattle.cov_text.specs.Listing.{counted}
 use Rattle.cov_model.specs.declared.snapshot.Snapshot.{Snapshot}
-use Rattle.made_snapshots.specs.Draws.{next, behind, draw}
+use Rattle.made_snapshots.specs.Draws.{next, behind}
 use Rattle.made_snapshots.specs.Made.{made, snapshot}
 
 -- ---- one more

@@ -5,7 +5,6 @@ use Rattle.cov_text.specs.Listing.{counted}
 use Rattle.cov_model.specs.Normal.{range}
 use Rattle.cov_model.specs.declared.report.Range.{Range}
 use Rattle.cov_model.specs.declared.report.FunctionReport.{FunctionReport}
-use Rattle.cov_model.specs.declared.snapshot.Entry.{Entry}
 use Rattle.cov_model.specs.declared.snapshot.Snapshot.{Snapshot}
 use Rattle.made_snapshots.specs.Draws.{behind, draw}
 

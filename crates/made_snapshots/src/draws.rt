@@ -1,5 +1,5 @@
 //! Numbers that are drawn one after the other.
-ghost use Rattle.std.specs.Prelude.{◌≡◌, ◌<◌, ◌≤◌};
+ghost use Rattle.std.specs.Prelude.{◌≡◌, ◌<◌};
 ghost use Rattle.made_snapshots.specs.Draws.{next, upper};
 
 use std::marker::Model;

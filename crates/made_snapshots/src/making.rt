@@ -1,5 +1,5 @@
 //! The scripts of one made snapshot.
-ghost use Rattle.std.specs.Prelude.{◌≡◌, ◌≤◌, ◌+◌, ◌<◌, [], ◌∷◌, ◌++◌, IfOk, OnOk, codes};
+ghost use Rattle.std.specs.Prelude.{◌≡◌, ◌≤◌, ◌+◌, ◌<◌, IfOk, OnOk};
 ghost use Rattle.made_snapshots.specs.Draws.{behind};
 ghost use Rattle.made_snapshots.specs.Made as made;
 ghost use Rattle.made_snapshots.specs.Made.{snapshot};

@@ -1,5 +1,5 @@
 //! The book of made snapshots, and its line.
-ghost use Rattle.std.specs.Prelude.{◌≡◌, ◌≤◌, [], ◌∷◌, ◌++◌, List, IfOk, OnOk};
+ghost use Rattle.std.specs.Prelude.{◌≡◌, [], ◌∷◌, ◌++◌, List, IfOk, OnOk};
 ghost use Rattle.serde_json.specs.Written.{compact_text};
 ghost use Rattle.cov_model.specs.declared.snapshot.Snapshot.{Snapshot};
 ghost use Rattle.cov_model.specs.File.{result_data};

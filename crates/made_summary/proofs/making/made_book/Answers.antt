@@ -1,4 +1,4 @@
-use Rattle.std.proofs.Common.{◌≡◌, ◌*◌, [], ◌∷◌, ◌++◌, sym, ap, ◌∙◌, subst, arith}
+use Rattle.std.proofs.Common.{◌≡◌, [], ◌∷◌, ◌++◌, sym, ap, ◌∙◌, subst, arith}
 use Rattle.cov_laws.specs.Laws.{AreInBounds}
 use Rattle.cov_book.specs.Stands.{StandsFor}
 use Rattle.made_snapshots.specs.Draws.{behind}
