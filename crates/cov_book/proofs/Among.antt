@@ -19,9 +19,9 @@ use Rattle.cov_book.specs.declared.sums.Sums.{Sums}
 use Rattle.cov_book.specs.declared.scripts.Function.{Function}
 use Rattle.cov_book.specs.declared.scripts.Script.{Script}
 use Rattle.cov_book.specs.declared.placing.Update.{Update}
-use Rattle.cov_book.specs.Room.{HasRoom}
+use Rattle.cov_book.specs.Room.{HasRoom, IsPutIn}
 use Rattle.std.specs.Vec.{vec_capacity}
-use Rattle.cov_book.specs.Listed.{AreInOrder, AreSorted, Knows, own, own_list, listed, all_listed, urls_in, of_url, is_front, is_there, held_in}
+use Rattle.cov_book.specs.Listed.{AreInOrder, AreSorted, IsPlace, Knows, own, own_list, listed, all_listed, urls_in, of_url, is_front, is_there, held_in}
 use Rattle.cov_book.specs.Least.{IsLeastSoFar}
 use Rattle.cov_book.specs.Prepared.{sums_now}
 use Rattle.cov_book.proofs.Keyed.{is-at}
@@ -365,6 +365,18 @@ changed-one url fs old mid new at sorted script same now order =
       are = λ u. ap (of_url u) now ∙ of-url-set u t mid at sorted.urls here ∙ ap (cond (same_text url u) fs) (same u);
     }
 
+-- the functions of a url were taken out, and these put back
+pub changed-in : (url : List ℕ) (fs : List Function) (old mid taken new : List Script) (at : ℕ) → AreSorted mid → slice_get mid at ≡ Some (record { url = url; functions = of_url url old })
+    → ((u : List ℕ) → of_url u mid ≡ of_url u old) → ((s : Script) → slice_get mid at ≡ Some s → taken ≡ slice_set mid at (record { url = s.url; functions = [] }))
+    → ((s : Script) → slice_get taken at ≡ Some s → new ≡ slice_set taken at (record { url = s.url; functions = fs })) → AreInOrder fs → ChangedOne url fs old mid new
+changed-in url fs old mid taken new at sorted script same left set order =
+    let s : Script = record { url = url; functions = of_url url old } in
+    let t : Script = record { url = url; functions = [] } in
+    let more : Script = record { url = url; functions = fs } in
+    let is = left s script in
+    let there = ap (λ xs. slice_get xs at) is ∙ set-there t s mid at script in
+    changed-one url fs old mid new at sorted script same (set t there ∙ ap (λ xs. slice_set xs at more) is ∙ set-twice t more mid at) order
+
 module _ (all : List (Key × Sums)) (url : List ℕ) (old scripts : List Script) (sorts : IsStrictlySortedBy text_cmp (urls_in old)) where
   pub enter : (fs : List Function) (least : Option Key) → fs ≡ of_url url old → IsLeastSoFar all (held_in scripts) (all_listed old) least → IsLeastSoFar all (apart url old (held_in scripts)) (own_list url fs) least
   enter fs least is so_far =
@@ -402,6 +414,33 @@ put-apart url gs ss more are u other = are u ∙ ap (λ b. cond b gs (of_url u s
 
 pub or-none : (o p : Option Sums) → p ≡ None → o ≡ option_or o p
 or-none o p e = sym (ap (option_or o) e ∙ none-or o)
+
+-- ---- a script put in, where its url is held and where it isn't
+
+pub put-held : (s : Script) (gs : List Function) (ss more : List Script) (at : ℕ) → AreSorted ss → IsPlace (is_front s.url) ss at → is_there s.url (slice_get ss at) ≡ true
+    → ChangedOne s.url gs ss ss more
+    → ((key : Key) → lookup (is_at (file_order key)) (own_list s.url gs) ≡ option_or (lookup (is_at (file_order key)) (listed s)) (lookup (is_at (file_order key)) (own_list s.url (of_url s.url ss))))
+    → IsPutIn s ss more
+put-held s gs ss more at sorted place here one found = record {
+  order = one.sorted;
+  held = put-one s gs ss more sorted.urls one.sorted.urls one.are found;
+  urls = one.urls ∙ sym (urls-there s.url ss at place.front here);
+  others = put-apart s.url gs ss more one.are;
+}
+
+pub put-fresh : (s : Script) (ss more : List Script) (at : ℕ) → AreSorted ss → IsPlace (is_front s.url) ss at → is_there s.url (slice_get ss at) ≡ false
+    → more ≡ insert ss at s → AreInOrder s.functions → IsPutIn s ss more
+put-fresh s ss more at sorted place none now order =
+    let are : (u : List ℕ) → of_url u more ≡ cond (same_text s.url u) s.functions (of_url u ss) = λ u. ap (of_url u) now ∙ of-url-insert u s ss at place.front in
+    let next : AreSorted more = subst AreSorted (sym now) (insert-sorted s ss at sorted place.front place.back none order) in
+    record {
+      order = next;
+      held = put-one s s.functions ss more sorted.urls next.urls are
+          (λ key. or-none (lookup (is_at (file_order key)) (listed s)) (lookup (is_at (file_order key)) (own_list s.url (of_url s.url ss)))
+          (ap (λ fs. lookup (is_at (file_order key)) (own_list s.url fs)) (none-there s.url ss at sorted.urls place.front place.back none)));
+      urls = ap urls_in now ∙ urls-insert s ss at place.front place.back none;
+      others = put-apart s.url s.functions ss more are;
+    }
 
 -- ---- scripts put in their places one after the other
 

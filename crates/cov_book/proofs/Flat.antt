@@ -24,7 +24,7 @@ use Rattle.cov_book.specs.declared.sums.Sums.{Sums}
 use Rattle.cov_book.specs.declared.scripts.Function.{Function}
 use Rattle.cov_book.specs.declared.scripts.Script.{Script}
 use Rattle.cov_book.specs.Listed.{AreInOrder, AreSorted, bare, bare_key, own, own_list, listed, all_listed, urls_in, of_url, held_in, told_script}
-use Rattle.cov_book.specs.Prepared.{AreAligned, ArePrepared, IsAligned, told_report, told_entry, with_entries}
+use Rattle.cov_book.specs.Prepared.{AreAligned, ArePrepared, AreWithin, IsAligned, told_report, told_entry, with_entries}
 use Rattle.cov_book.proofs.Among.{later-none, less-differs, same-text, text-same}
 use Rattle.cov_book.proofs.Ordered.{any-in_order, any-inserted, sorted-inserted, text_exact, text_total}
 use Rattle.cov_book.proofs.Placed.{same-entries}
@@ -197,12 +197,29 @@ sum-more w same s ss = sum_by-append w (listed s) (all_listed ss) ∙ ap (λ n. 
 
 -- ---- an addition
 
-pub added-all : (old changed new : List Script) (s : Snapshot) → AreSorted new → ArePrepared (with_entries (all_listed old) s) (held_in old) (all_listed changed)
+added-all : (old changed new : List Script) (s : Snapshot) → AreSorted new → ArePrepared (with_entries (all_listed old) s) (held_in old) (all_listed changed)
     → ((key : Key) → held_in new key ≡ option_or (held_in changed key) (held_in old key)) → all_listed new ≡ with_entries (all_listed old) s
 added-all old changed new s sorted prepared put = same-entries (all_listed new) (with_entries (all_listed old) s) (all-sorted new sorted) prepared.kept.sorted (λ q. put q ∙ sym (prepared.now q))
 
-pub added-urls : (old changed new : List Script) (s : Snapshot) → IsStrictlySortedBy text_cmp (urls_in old) → urls_in changed ≡ in_order text_cmp (urls_of s) → urls_in new ≡ inserted text_cmp (urls_in old) (urls_in changed) → urls_in new ≡ with_urls (urls_in old) s
+added-urls : (old changed new : List Script) (s : Snapshot) → IsStrictlySortedBy text_cmp (urls_in old) → urls_in changed ≡ in_order text_cmp (urls_of s) → urls_in new ≡ inserted text_cmp (urls_in old) (urls_in changed) → urls_in new ≡ with_urls (urls_in old) s
 added-urls old changed new s sorts are put = put ∙ ap (inserted text_cmp (urls_in old)) are ∙ urls-once (urls_in old) (urls_of s) sorts
+
+-- the scripts are those with the snapshot
+pub record IsAdded (old new : List Script) (s : Snapshot) : Type 0 where
+  pub urls : urls_in new ≡ with_urls (urls_in old) s
+  pub entries : all_listed new ≡ with_entries (all_listed old) s
+  pub within : AreWithin (all_listed new)
+
+pub added : (old changed new : List Script) (s : Snapshot) → IsStrictlySortedBy text_cmp (urls_in old) → AreSorted new → ArePrepared (with_entries (all_listed old) s) (held_in old) (all_listed changed)
+    → urls_in changed ≡ in_order text_cmp (urls_of s) → ((key : Key) → held_in new key ≡ option_or (held_in changed key) (held_in old key))
+    → urls_in new ≡ inserted text_cmp (urls_in old) (urls_in changed) → IsAdded old new s
+added old changed new s sorts sorted prepared are held urls =
+    let entries = added-all old changed new s sorted prepared held in
+    record {
+      urls = added-urls old changed new s sorts are urls;
+      entries = entries;
+      within = subst AreWithin (sym entries) prepared.kept.within;
+    }
 
 pub told-all : {E : Type 0} (form : ListForm) (ss lent : List Script) (r : Result Snapshot E) → IsStrictlySortedBy text_cmp (urls_in ss) → lent ≡ ss → IfOk r (λ snapshot. snapshot ≡ map (told_script form) lent)
     → IfOk r (λ snapshot. snapshot ≡ map (told_entry form (all_listed ss)) (urls_in ss))

@@ -28,6 +28,7 @@ use Rattle.cov_steps.proofs.Maximal.{maximal_runs-same, count_in-maximal}
 use Rattle.cov_book.specs.declared.sums.Sums.{Sums}
 use Rattle.cov_book.specs.Entries.{sums_at, key_sums, entries_of}
 use Rattle.cov_book.specs.Prepared.{report_sums, sum_two, summed, with_key, with_reports, with_entries, SumsGrow}
+use Rattle.cov_book.specs.Weights.{weighed}
 use Rattle.cov_book.proofs.Agreeing.{keys-append}
 use Rattle.cov_book.proofs.Finding.{weigh, weigh-reports}
 use Rattle.cov_book.proofs.Having.{absent, has-is, cons-count, any-count}
@@ -117,7 +118,7 @@ counted-key url name (r ∷ rest) k e =
     let is : key ≡ k = cc in
     (λ i. record { start = (is i).start; end = (is i).end; runs = maximal_runs (is i).start (is i).end (inner_count (r ∷ rest)) })
 
-sum-one : {A : Type 0} (w : A → ℕ) (x : A) → sum_by w (x ∷ []) ≡ w x
+pub sum-one : {A : Type 0} (w : A → ℕ) (x : A) → sum_by w (x ∷ []) ≡ w x
 sum-one w x = omega (arith, sum_by-cons w x [])
 
 first-report : (url : List ℕ) (f : FunctionReport) (k : Key) → key_of url f ≡ Some k → report_sums f ≡ sums_over k (f ∷ [])
@@ -292,3 +293,12 @@ entries-more held snapshot =
     ∙ ap (λ n. weigh w held + n)
     (weigh-parts w snapshot ∙ sym (sum-one (λ (s : Snapshot). sum_by (λ (entry : Entry). sum_by (w entry.url) entry.functions) s) snapshot))
     ∙ sym (weigh-append w held (snapshot ∷ [])))
+
+-- Snapshots with the same reports add the same to a list.
+pub alike-sums : (held : List Snapshot) (given other : Snapshot) → ((w : List ℕ → FunctionReport → ℕ) → weighed w given ≡ weighed w other) → entries_of (held ++ given ∷ []) ≡ entries_of (held ++ other ∷ [])
+alike-sums held given other same =
+    same-entries (held ++ given ∷ []) (held ++ other ∷ [])
+    (λ w.
+    weigh-append w held (given ∷ [])
+    ∙ ap (λ n. weigh w held + n) (sum-one (λ (s : Snapshot). weighed w s) given ∙ same w ∙ sym (sum-one (λ (s : Snapshot). weighed w s) other))
+    ∙ sym (weigh-append w held (other ∷ [])))

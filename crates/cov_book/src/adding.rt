@@ -13,13 +13,17 @@ ghost use Rattle.cov_book.specs.Least.{comes_before, CanGoOn, IsLeastPast, IsLea
 ghost use Rattle.cov_book.specs.Listed.{all_listed, own_list, urls_in, held_in, AreInOrder, AreSorted, Knows, CanGoOnIn};
 ghost use Rattle.cov_book.specs.Told.{named};
 ghost use Rattle.cov_book.specs.Urls.{urls_of};
+ghost use Rattle.cov_book.specs.Entries.{entries_of};
+ghost use Rattle.cov_book.specs.Weights.{entries_in};
+ghost use Rattle.cov_model.specs.declared.snapshot.Snapshot.{Snapshot};
 
+use crate::cutting::{Part, parts_of};
 use crate::looking::{functions_of, sums_among};
 use crate::scripts::{
     Function, Script, place_of_script, put_function, set_functions, take_functions,
 };
 use crate::sums::{Stop, Sums, sum_with, sums_of};
-use cov_model::{Entry, FunctionReport, Key, Snapshot, Steps, Text};
+use cov_model::{FunctionReport, Key, Snapshot, Steps, Text};
 use std::alloc::{AllocError, Global};
 use std::cmp::Ordering;
 use std::sync::ledger::Ledger;
@@ -44,6 +48,7 @@ pub fn changes_by<L: Ledger>(
 ) -> Result<Changes, AllocError>
     requires order { AreSorted scripts.now }
     requires kept { AreKept (all_listed scripts.now) }
+    requires held { (held : List Snapshot) × (all_listed scripts.now ≡ entries_of held) }
     ensures order { IfOk result (λ changes. AreSorted changes.scripts.items) }
     ensures urls { IfOk result (λ changes. urls_in changes.scripts.items
         ≡ in_order text_cmp (urls_of snapshot.now)) }
@@ -58,10 +63,45 @@ pub fn changes_by<L: Ledger>(
         → steps.new ≤ steps.old + for_entries bound snapshot.now) }
     ensures later { steps.old ≤ steps.new }
 {
+    let parts = parts_of(alloc, snapshot)?;
+    changes_in(alloc, scripts, &parts, steps)
+}
+
+/// The changes by the reports of these parts.
+fn changes_in<L: Ledger>(
+    alloc: Global,
+    scripts: &[Script],
+    parts: &[Part],
+    steps: &mut Steps<L>,
+) -> Result<Changes, AllocError>
+    requires order { AreSorted scripts.now }
+    requires kept { AreKept (all_listed scripts.now) }
+    requires nested { AreNested (entries_in parts.now) }
+    ensures order { IfOk result (λ changes. AreSorted changes.scripts.items) }
+    ensures urls { IfOk result (λ changes. urls_in changes.scripts.items
+        ≡ in_order text_cmp (urls_of (entries_in parts.now))) }
+    ensures sums { IfOk result (λ changes. changes.past ≡ None → ArePrepared (with_entries
+        (all_listed scripts.now) (entries_in parts.now)) (held_in scripts.now) (all_listed
+        changes.scripts.items)) }
+    ensures past { IfOk result (λ changes. IsLeastPast (with_entries (all_listed scripts.now)
+        (entries_in parts.now)) changes.past) }
+    ensures cost { IfOk result (λ changes. changes.past ≡ None → (bound : Key → ℕ) → ((key : Key)
+        → runs_at (all_listed scripts.now) key + own_all key (entries_in parts.now) ≤ bound key)
+        → steps.new ≤ steps.old + for_entries bound (entries_in parts.now)) }
+    ensures later { steps.old ≤ steps.new }
+{
     let mut changed = Vec::new(alloc);
     let mut past = None;
-    for entry in snapshot.scripts() {
-        past = add_script(alloc, scripts, &mut changed, past, entry, steps)?;
+    for part in parts {
+        past = add_script(
+            alloc,
+            scripts,
+            &mut changed,
+            past,
+            part.url,
+            part.reports,
+            steps,
+        )?;
     }
     Ok(Changes {
         scripts: changed,
@@ -75,35 +115,36 @@ fn add_script<L: Ledger>(
     scripts: &[Script],
     changed: &mut Vec<Script>,
     before: Option<Key>,
-    entry: &Entry,
+    url: &Text,
+    reports: &[FunctionReport],
     steps: &mut Steps<L>,
 ) -> Result<Option<Key>, AllocError>
     requires held { AreSorted scripts.now }
     requires changed { AreSorted changed.now.items }
     requires so_far { CanGoOn (held_in scripts.now) (all_listed changed.now.items) before }
-    requires nested { AreReportsNested entry.now.functions }
+    requires nested { AreReportsNested reports.now }
     ensures order { OnOk result (AreSorted changed.new.items) }
     ensures urls { OnOk result (urls_in changed.new.items
-        ≡ insert_key text_cmp (urls_in changed.old.items) entry.now.url) }
+        ≡ insert_key text_cmp (urls_in changed.old.items) url.now) }
     ensures sums { IfOk result (λ now. (all : List (Key × Sums))
         → IsLeastSoFar all (held_in scripts.now) (all_listed changed.old.items) before
-        → IsLeastSoFar (with_reports all entry.now.url entry.now.functions) (held_in scripts.now)
+        → IsLeastSoFar (with_reports all url.now reports.now) (held_in scripts.now)
         (all_listed changed.new.items) now) }
     ensures cost { IfOk result (λ now. now ≡ None → (all : List (Key × Sums)) (bound : Key → ℕ)
         → IsLeastSoFar all (held_in scripts.now) (all_listed changed.old.items) before → ((key : Key)
-        → runs_at all key + sum_by (own_runs key entry.now.url) entry.now.functions ≤ bound key)
-        → steps.new ≤ steps.old + for_reports bound entry.now.url entry.now.functions) }
+        → runs_at all key + sum_by (own_runs key url.now) reports.now ≤ bound key)
+        → steps.new ≤ steps.old + for_reports bound url.now reports.now) }
     ensures grows { IfOk result (λ now. now ≡ None → (all : List (Key × Sums))
         → IsLeastSoFar all (held_in scripts.now) (all_listed changed.old.items) before → (key : Key)
-        → runs_at (with_reports all entry.now.url entry.now.functions) key ≤ runs_at all key
-        + sum_by (own_runs key entry.now.url) entry.now.functions) }
+        → runs_at (with_reports all url.now reports.now) key ≤ runs_at all key
+        + sum_by (own_runs key url.now) reports.now) }
     ensures stays { IfOk result (λ now. now ≡ None → before ≡ None) }
     ensures later { steps.old ≤ steps.new }
 {
-    let held = functions_of(scripts, entry.url.as_text());
-    let at = place_of_script(alloc, changed, &entry.url)?;
+    let held = functions_of(scripts, url.as_text());
+    let at = place_of_script(alloc, changed, url)?;
     let mut functions = take_functions(alloc, changed, at);
-    let past = add_reports(alloc, held, &mut functions, before, entry, steps)?;
+    let past = add_reports(alloc, held, &mut functions, before, url, reports, steps)?;
     set_functions(changed, at, functions);
     Ok(past)
 }
@@ -114,35 +155,36 @@ fn add_reports<L: Ledger>(
     held: &[Function],
     changed: &mut Vec<Function>,
     before: Option<Key>,
-    entry: &Entry,
+    url: &Text,
+    reports: &[FunctionReport],
     steps: &mut Steps<L>,
 ) -> Result<Option<Key>, AllocError>
     requires held { AreInOrder held.now }
     requires changed { AreInOrder changed.now.items }
-    requires so_far { CanGoOnIn entry.now.url held.now changed.now.items before }
-    requires nested { AreReportsNested entry.now.functions }
+    requires so_far { CanGoOnIn url.now held.now changed.now.items before }
+    requires nested { AreReportsNested reports.now }
     ensures order { OnOk result (AreInOrder changed.new.items) }
     ensures sums { IfOk result (λ now. (all : List (Key × Sums)) (functions : Key → Option Sums)
-        → Knows entry.now.url held.now functions
-        → IsLeastSoFar all functions (own_list entry.now.url changed.old.items) before
-        → IsLeastSoFar (with_reports all entry.now.url entry.now.functions) functions (own_list
-        entry.now.url changed.new.items) now) }
+        → Knows url.now held.now functions
+        → IsLeastSoFar all functions (own_list url.now changed.old.items) before
+        → IsLeastSoFar (with_reports all url.now reports.now) functions (own_list
+        url.now changed.new.items) now) }
     ensures cost { IfOk result (λ now. now ≡ None → (all : List (Key × Sums)) (functions : Key
-        → Option Sums) (bound : Key → ℕ) → Knows entry.now.url held.now functions
-        → IsLeastSoFar all functions (own_list entry.now.url changed.old.items) before → ((key : Key)
-        → runs_at all key + sum_by (own_runs key entry.now.url) entry.now.functions ≤ bound key)
-        → steps.new ≤ steps.old + for_reports bound entry.now.url entry.now.functions) }
+        → Option Sums) (bound : Key → ℕ) → Knows url.now held.now functions
+        → IsLeastSoFar all functions (own_list url.now changed.old.items) before → ((key : Key)
+        → runs_at all key + sum_by (own_runs key url.now) reports.now ≤ bound key)
+        → steps.new ≤ steps.old + for_reports bound url.now reports.now) }
     ensures grows { IfOk result (λ now. now ≡ None → (all : List (Key × Sums)) (functions : Key
-        → Option Sums) → Knows entry.now.url held.now functions
-        → IsLeastSoFar all functions (own_list entry.now.url changed.old.items) before → (key : Key)
-        → runs_at (with_reports all entry.now.url entry.now.functions) key ≤ runs_at all key
-        + sum_by (own_runs key entry.now.url) entry.now.functions) }
+        → Option Sums) → Knows url.now held.now functions
+        → IsLeastSoFar all functions (own_list url.now changed.old.items) before → (key : Key)
+        → runs_at (with_reports all url.now reports.now) key ≤ runs_at all key
+        + sum_by (own_runs key url.now) reports.now) }
     ensures stays { IfOk result (λ now. now ≡ None → before ≡ None) }
     ensures later { steps.old ≤ steps.new }
 {
     let mut past = before;
-    for report in entry.functions.as_slice() {
-        past = add_report(alloc, held, changed, past, &entry.url, report, steps)?;
+    for report in reports {
+        past = add_report(alloc, held, changed, past, url, report, steps)?;
     }
     Ok(past)
 }

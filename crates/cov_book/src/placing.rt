@@ -10,7 +10,7 @@ ghost use Rattle.cov_text.specs.Listing.{inserted, same_text, text_cmp};
 ghost use Rattle.cov_model.specs.declared.sums.Key.{Key};
 ghost use Rattle.cov_model.specs.Sums.{file_order};
 ghost use Rattle.cov_book.specs.Listed.{held_in, listed, of_url, own_list, urls_in, AreInOrder, AreSorted};
-ghost use Rattle.cov_book.specs.Room.{HasRoom};
+ghost use Rattle.cov_book.specs.Room.{HasRoom, IsPutIn};
 ghost use Rattle.cov_book.specs.Joining.{by_lasts, last_of, IsTaken};
 
 use crate::looking::{functions_of, order_of, place_of_url};
@@ -84,13 +84,7 @@ fn put_script(alloc: Global, scripts: &mut Vec<Script>, update: Update)
     requires functions { AreInOrder update.script.functions }
     requires room { HasRoom scripts.now.items update }
     requires place { vec_len scripts.now < vec_capacity scripts.now }
-    ensures order { AreSorted scripts.new.items }
-    ensures held { (key : Key) → held_in scripts.new.items key ≡ option_or (lookup (is_at (file_order
-        key)) (listed update.script)) (held_in scripts.old.items key) }
-    ensures urls { urls_in scripts.new.items
-        ≡ insert_key text_cmp (urls_in scripts.old.items) update.script.url }
-    ensures others { (u : List ℕ) → same_text update.script.url u ≡ false
-        → of_url u scripts.new.items ≡ of_url u scripts.old.items }
+    ensures put { IsPutIn update.script scripts.old.items scripts.new.items }
     ensures len { vec_len scripts.new ≤ vec_len scripts.old + 1 }
     ensures capacity { vec_capacity scripts.old ≤ vec_capacity scripts.new }
 {

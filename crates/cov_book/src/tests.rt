@@ -1,7 +1,7 @@
 //! What snapshots come to, on examples. How many runs an addition may look at is a law:
 //! `laws::runs_looked_at`.
 ghost use Rattle.std.specs.Prelude.{◌≡◌, ◌<◌, None, IfOk};
-ghost use Rattle.cov_model.specs.Nesting.{range_fault};
+ghost use Rattle.cov_model.specs.Nesting.{range_fault, AreReportsNested};
 
 use super::*;
 use cov_model::{Entry, FunctionReport, Items, Range, Snapshot, Text};
@@ -21,11 +21,11 @@ fn range(start: u32, end: u32, count: u64) -> Range {
     Range { start, end, count }
 }
 
-fn report(alloc: Global, block: bool, ranges: &[Range]) -> Result<FunctionReport, Fail>
+fn report(alloc: Global, name: &str, block: bool, ranges: &[Range]) -> Result<FunctionReport, Fail>
     ensures { IfOk result (λ report. range_fault report.ranges ≡ None) }
 {
     let report = FunctionReport {
-        name: Text::from_text(alloc, "")?,
+        name: Text::from_text(alloc, name)?,
         block,
         ranges: Items::from_slice(alloc, ranges)?,
     };
@@ -38,7 +38,7 @@ fn report(alloc: Global, block: bool, ranges: &[Range]) -> Result<FunctionReport
 /// A snapshot of one script with one function.
 fn snapshot(alloc: Global, url: &str, block: bool, ranges: &[Range]) -> Result<Snapshot, Fail> {
     let mut functions = Items::new(alloc);
-    functions.push(report(alloc, block, ranges)?)?;
+    functions.push(report(alloc, "", block, ranges)?)?;
     let mut scripts = Items::new(alloc);
     let url = Text::from_text(alloc, url)?;
     scripts.push(Entry { url, functions })?;
@@ -53,8 +53,11 @@ fn add(
     block: bool,
     ranges: &[Range],
 ) -> Result<Option<SumFault>, Fail> {
-    let snapshot = snapshot(alloc, url, block, ranges)?;
-    add_counted::<Brand>(book, &snapshot, Blank::new(1))
+    add_snapshot(book, &snapshot(alloc, url, block, ranges)?)
+}
+
+fn add_snapshot(book: &mut Book, snapshot: &Snapshot) -> Result<Option<SumFault>, Fail> {
+    add_counted::<Brand>(book, snapshot, Blank::new(1))
 }
 
 fn add_counted<L: Ledger>(
@@ -124,6 +127,59 @@ fn scripts_and_numbers(rt: HostRuntime) -> Result<(), Fail> {
     assert_eq!(rt; function.ranges.get(0).copied(), Some(range(0, 100, 3)));
     let flat = book.flat_scripts(alloc)?;
     assert_eq!(rt; flat.scripts().len(), 2);
+    Ok(())
+}
+
+/// A script with two functions.
+fn pair(
+    alloc: Global,
+    url: &str,
+    first: FunctionReport,
+    second: FunctionReport,
+) -> Result<Entry, Fail>
+    requires first { range_fault first.ranges ≡ None }
+    requires second { range_fault second.ranges ≡ None }
+    ensures { IfOk result (λ entry. AreReportsNested entry.functions) }
+{
+    let mut functions = Items::new(alloc);
+    functions.push(first)?;
+    functions.push(second)?;
+    let url = Text::from_text(alloc, url)?;
+    Ok(Entry { url, functions })
+}
+
+/// Scripts whose functions stand in no order, and of which one url comes twice.
+fn out_of_order(alloc: Global) -> Result<Snapshot, Fail> {
+    let last = report(alloc, "b", true, &[range(20, 30, 1)])?;
+    let third = report(alloc, "c", true, &[range(10, 20, 1)])?;
+    let second = report(alloc, "ba", true, &[range(10, 20, 1)])?;
+    let first = report(alloc, "a", true, &[range(10, 25, 1)])?;
+    let elsewhere = report(alloc, "", true, &[range(5, 9, 1)])?;
+    let before = report(alloc, "", true, &[range(0, 9, 1)])?;
+    let mut scripts = Items::new(alloc);
+    scripts.push(pair(alloc, A, last, third)?)?;
+    scripts.push(pair(alloc, B, elsewhere, before)?)?;
+    scripts.push(pair(alloc, A, second, first)?)?;
+    Ok(Snapshot::new(scripts))
+}
+
+#[test]
+fn functions_in_any_order(rt: HostRuntime) -> Result<(), Fail> {
+    let alloc = rt.alloc();
+    let mut book = Book::new(alloc);
+    let snapshot = out_of_order(alloc)?;
+    let fault = add_snapshot(&mut book, &snapshot)?;
+    assert!(rt; fault.is_none());
+    let merged = book.scripts(alloc)?;
+    let scripts = merged.scripts();
+    assert_eq!(rt; scripts.len(), 2);
+    assert_eq!(rt; scripts[1].url.as_text(), B);
+    let functions = scripts[0].functions.as_slice();
+    assert_eq!(rt; functions.len(), 4);
+    assert_eq!(rt; functions[0].name.as_text(), "a");
+    assert_eq!(rt; functions[1].name.as_text(), "ba");
+    assert_eq!(rt; functions[2].name.as_text(), "c");
+    assert_eq!(rt; functions[3].name.as_text(), "b");
     Ok(())
 }
 

@@ -10,10 +10,10 @@ use Rattle.cov_book.proofs.adding.add_reports.Goals as goal
 
 pub loop-report-preserved : goal.loop-report-preserved
 loop-report-preserved g c =
-    let items = c.as_slice-report-items.result.now in
+    let items = c.args.reports.now in
     let k = c.loop-report.report-index in
     let f = c.report-item.result in
-    let url = c.args.entry.now.url in
+    let url = c.args.url.now in
     let rest = drop (k + 1) items in
     let more = drop_more items k f c.loop-report-test.true ∙ ap (λ x. x ∷ drop (k + 1) items) (sym c.report-item.is) in
     let inv = c.loop-report.invariant in
@@ -43,29 +43,24 @@ loop-report-preserved g c =
 
 pub returns-clause-sums : goal.returns-clause-sums
 returns-clause-sums g c = λ all functions knows before.
-    let items = c.as_slice-report-items.result.now in
-    let url = c.args.entry.now.url in
+    let items = c.args.reports.now in
+    let url = c.args.url.now in
     let so_far = c.loop-report.invariant.sums all functions knows before in
     let done = drop_all c.loop-report.report-index items (omega (arith, c.loop-report-test.false)) in
     subst (λ now. IsLeastSoFar now functions (own_list url c.loop-report.changed.items) c.loop-report.past)
-    (sym (ap (with_reports so_far.0 url) done) ∙ so_far.2 ∙ ap (with_reports all url) c.as_slice-report-items.ensures) so_far.1
+    (sym (ap (with_reports so_far.0 url) done) ∙ so_far.2) so_far.1
 
 pub returns-clause-grows : goal.returns-clause-grows
 returns-clause-grows g c = λ none all functions knows before key.
-    let items = c.as_slice-report-items.result.now in
-    let url = c.args.entry.now.url in
+    let items = c.args.reports.now in
+    let url = c.args.url.now in
     let so_far = c.loop-report.invariant.sums all functions knows before in
     let done = drop_all c.loop-report.report-index items (omega (arith, c.loop-report-test.false)) in
-    let is = sym (ap (with_reports so_far.0 url) done) ∙ so_far.2 ∙ ap (with_reports all url) c.as_slice-report-items.ensures in
+    let is = sym (ap (with_reports so_far.0 url) done) ∙ so_far.2 in
     let grown = subst (λ now. runs_at now key + sum_by (own_runs key url) (drop c.loop-report.report-index items) ≤ runs_at all key + sum_by (own_runs key url) items) is (so_far.3 none key) in
-    let whole = ap (sum_by (own_runs key url)) c.as_slice-report-items.ensures in
-    omega (arith, grown, whole)
+    omega (arith, grown)
 
 pub returns-clause-cost : goal.returns-clause-cost
 returns-clause-cost g c = λ none all functions bound knows before within.
-    let items = c.as_slice-report-items.result.now in
-    let url = c.args.entry.now.url in
-    let whole = c.as_slice-report-items.ensures in
-    let spent = c.loop-report.invariant.cost none all functions bound knows before (λ key. subst (λ fs. runs_at all key + sum_by (own_runs key url) fs ≤ bound key) (sym whole) (within key)) in
-    let same = ap (for_reports bound url) whole in
-    omega (arith, spent, same)
+    let spent = c.loop-report.invariant.cost none all functions bound knows before within in
+    omega (arith, spent)

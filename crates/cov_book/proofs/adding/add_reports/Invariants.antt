@@ -12,15 +12,15 @@ use Rattle.cov_book.proofs.adding.add_reports.Given as goal
 abbrev pub invariant-loop-report : goal.invariant-loop-report
 invariant-loop-report g l = record {
   order : AreInOrder l.changed.items;
-  so_far : CanGoOnIn l.entry.url l.held l.changed.items l.past;
-  sums : (all : List (Key × Sums)) (functions : Key → Option Sums) → Knows l.entry.url l.held functions → IsLeastSoFar all functions (own_list l.entry.url l.initial.changed.items) l.fn.before
-      → (now : List (Key × Sums)) × IsLeastSoFar now functions (own_list l.entry.url l.changed.items) l.past
-      × (with_reports now l.entry.url (drop l.report-index l.report-items) ≡ with_reports all l.entry.url l.report-items)
-      × (l.past ≡ None → (key : Key) → runs_at now key + sum_by (own_runs key l.entry.url) (drop l.report-index l.report-items) ≤ runs_at all key + sum_by (own_runs key l.entry.url) l.report-items);
-  cost : l.past ≡ None → (all : List (Key × Sums)) (functions : Key → Option Sums) (bound : Key → ℕ) → Knows l.entry.url l.held functions
-      → IsLeastSoFar all functions (own_list l.entry.url l.initial.changed.items) l.fn.before
-      → ((key : Key) → runs_at all key + sum_by (own_runs key l.entry.url) l.report-items ≤ bound key)
-      → l.steps + for_reports bound l.entry.url (drop l.report-index l.report-items) ≤ l.initial.steps + for_reports bound l.entry.url l.report-items;
+  so_far : CanGoOnIn l.url l.held l.changed.items l.past;
+  sums : (all : List (Key × Sums)) (functions : Key → Option Sums) → Knows l.url l.held functions → IsLeastSoFar all functions (own_list l.url l.initial.changed.items) l.fn.before
+      → (now : List (Key × Sums)) × IsLeastSoFar now functions (own_list l.url l.changed.items) l.past
+      × (with_reports now l.url (drop l.report-index l.reports) ≡ with_reports all l.url l.reports)
+      × (l.past ≡ None → (key : Key) → runs_at now key + sum_by (own_runs key l.url) (drop l.report-index l.reports) ≤ runs_at all key + sum_by (own_runs key l.url) l.reports);
+  cost : l.past ≡ None → (all : List (Key × Sums)) (functions : Key → Option Sums) (bound : Key → ℕ) → Knows l.url l.held functions
+      → IsLeastSoFar all functions (own_list l.url l.initial.changed.items) l.fn.before
+      → ((key : Key) → runs_at all key + sum_by (own_runs key l.url) l.reports ≤ bound key)
+      → l.steps + for_reports bound l.url (drop l.report-index l.reports) ≤ l.initial.steps + for_reports bound l.url l.reports;
   stays : l.past ≡ None → l.fn.before ≡ None;
   later : l.initial.steps ≤ l.steps;
 }

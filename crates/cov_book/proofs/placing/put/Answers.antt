@@ -48,14 +48,14 @@ loop-update-preserved c =
     let ss = c.loop-update.scripts.items in
     let more = c.put_script.new.scripts.items in
     let left = subst (λ us. AreSorted (scripts_in us)) steps.0 inv.left in
-    let put = c.put_script.ensures in
+    let put = c.put_script.ensures.put in
     record {
       order = put.order;
       left = rest-sorted u.script (scripts_in rest) left;
       held = λ key. held-next u.script (scripts_in rest) ss more left put.held key ∙ ap (λ us. option_or (held_in (scripts_in us) key) (held_in ss key)) (sym steps.0) ∙ inv.held key;
       urls = ap (λ us. inserted text_cmp us (urls_in (scripts_in rest))) put.urls ∙ sym (ap (λ us. inserted text_cmp (urls_in ss) (urls_in (scripts_in us))) steps.0) ∙ inv.urls;
       room = room-next u rest ss more left put.others (subst (AllByRecursion (HasRoom ss)) steps.0 inv.room);
-      place = omega (arith, steps.1, inv.place, put.len, put.capacity);
+      place = omega (arith, steps.1, inv.place, c.put_script.ensures.len, c.put_script.ensures.capacity);
       count = let again = ap length steps.0 in omega (arith, steps.1, inv.count, again);
     }
 

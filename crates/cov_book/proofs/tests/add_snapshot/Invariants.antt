@@ -1,4 +1,4 @@
-use Rattle.cov_book.proofs.tests.add.Given as goal
+use Rattle.cov_book.proofs.tests.add_snapshot.Given as goal
 
 -- the ledger of a counter that was just made
 abbrev pub ghosts-add_counted : goal.ghosts-add_counted
