@@ -3,6 +3,7 @@ pub mod Steps
 pub mod Counts
 pub mod Whole
 pub mod Firsts
+pub mod Keeping
 pub mod TextIn
 pub mod Asked
 pub mod Computed

@@ -1,5 +1,6 @@
-//! Worked examples of the definitions.
+//! Worked examples of the definitions, and a law of them.
 ghost use Rattle.cov_report.specs.Examples.{MappedFile, WithoutLengths, RefusedMap, DirectFile, AbsentFile, NoText, SharedPath};
+ghost use Rattle.cov_report.specs.First.{FirstsAreEnough};
 
 /// What the definitions give on worked examples.
 pub fn worked_examples()
@@ -10,4 +11,9 @@ pub fn worked_examples()
     ensures absent_file { AbsentFile }
     ensures no_text { NoText }
     ensures shared_path { SharedPath }
+{}
+
+/// Entries that have the same first entry of each url come to the same report.
+pub fn firsts_are_enough()
+    ensures { FirstsAreEnough }
 {}

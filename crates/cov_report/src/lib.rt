@@ -6,6 +6,7 @@ mod asking;
 mod files;
 mod first;
 mod gathering;
+mod kept;
 mod laws;
 mod lines;
 mod making;
@@ -13,6 +14,7 @@ mod maps;
 mod texts;
 
 pub use answer::{Report, ReportFault, Skip, SkipCause};
-pub use laws::worked_examples;
+pub use kept::FirstEntries;
+pub use laws::{firsts_are_enough, worked_examples};
 pub use lines::lines_of_skips;
 pub use making::report_of;
