@@ -14,7 +14,7 @@ use Rattle.cov_session.specs.declared.client.PeerWhy.{PeerWhy}
 use Rattle.cov_session.specs.declared.client.PeerWhy.TheVariants.{OtherId, ErrorReply, Chatter}
 use Rattle.cov_model.specs.declared.snapshot.ShapeFault.{ShapeFault}
 use Rattle.cov_model.specs.Reading.{snapshot_of}
-use Rattle.cov_session.specs.Script.{Talk, opening, words, word, awaited, heard_as, heard_of, heard_all, talk_after, talk_at_end, awaited_id, is_take, run_heard, run_sent}
+use Rattle.cov_session.specs.Script.{Talk, opening, words, word, awaited, heard_as, heard_of, heard_all, talk_after, talk_at_end, awaited_id, is_take, run_heard}
 use Rattle.cov_session.specs.Script as script
 use Rattle.cov_attach.specs.declared.fault.AttachFault.{AttachFault}
 use Rattle.cov_attach.specs.declared.fault.AttachFault.TheVariants.{Failed, Closed, Peer, NoMemory}

@@ -1,5 +1,5 @@
 //! Live sessions at many places.
-ghost use Rattle.std.specs.Prelude.{◌≡◌, IfOk, IfErr, Ok, Err};
+ghost use Rattle.std.specs.Prelude.{IfOk, IfErr, Ok, Err};
 ghost use Rattle.cov_links.specs.Together.{net_at, telling};
 ghost use Rattle.cov_attach.specs.Places.{Attends};
 

@@ -1,5 +1,5 @@
 //! One live session.
-ghost use Rattle.std.specs.Prelude.{◌≡◌, ◌≤◌, IsSome};
+ghost use Rattle.std.specs.Prelude.{IsSome};
 ghost use Rattle.cov_io.specs.Causes.{HasCause};
 ghost use Rattle.cov_session.specs.Script.{word};
 ghost use Rattle.cov_attach.specs.declared.fault.AttachFault.TheVariants.{Failed};

@@ -1,41 +1,34 @@
 -- One batch more.
 use Rattle.std.proofs.Common.{◌≡◌, ℕ, zero, suc, ◌+◌, ◌-◌, ◌<◌, ◌≤◌, Bool, true, false, List, [], ◌∷◌, ◌++◌, length, map, take, refl, sym, ap, ◌∙◌, subst, arith}
 use Rattle.std.proofs.Common.{inl, inr, append_assoc, nat_eq, slice_get}
-use Rattle.std.specs.Prelude.{filter_map, flat_map, sum_by, nat_le, ◌||◌, ◌^◌, min}
+use Rattle.std.specs.Prelude.{filter_map, sum_by, nat_le, ◌||◌, ◌^◌, min}
 use Rattle.std.specs.List.{list_any, AllByRecursion, IsDistinct, cons_option}
-use Rattle.std.proofs.lemmas.List.{append-nil, map-append, length-append, length-map, take_all}
+use Rattle.std.proofs.lemmas.List.{append-nil, map-append, length-append, length-map}
 use Rattle.std.proofs.lemmas.List.Concat.{flat_map-append, flat_map-cons}
 use Rattle.std.proofs.lemmas.List.Elements.{filter_map-append}
 use Rattle.std.proofs.lemmas.List.Folds.{list_any-append}
 use Rattle.std.proofs.lemmas.Bool.{cases_lt, le-leb}
 use Rattle.std.proofs.lemmas.List.Sums.{sum_by_push}
 use Rattle.std.proofs.lemmas.Bool.Decides.{nat_tests}
+use Rattle.std.proofs.Math.Bool.{or-true}
 use Rattle.cov_model.specs.declared.snapshot.Snapshot.{Snapshot}
 use Rattle.cov_model.specs.declared.sums.Answer.{Answer}
 use Rattle.cov_model.specs.Outcome.{Reading, IsOrder, IsOutcome, outcome_list, accepted_over, answers_over}
 use Rattle.cov_model.specs.Reading.{reading}
 use Rattle.cov_model.specs.Held.{Held}
-use Rattle.cov_model.proofs.Chains.{outcomes_chain}
+use Rattle.cov_text.proofs.Each.{All-append, All-take}
+use Rattle.cov_model.proofs.Chains.{get-left, get-past, outcomes_chain}
 use Rattle.cov_book.specs.Stands.{StandsFor}
 use Rattle.cov_collect.specs.declared.outcome.Batch.{Batch}
 use Rattle.cov_collect.specs.declared.outcome.Collected.{Collected}
 use Rattle.cov_collect.specs.Batches.{IsBatch}
-use Rattle.cov_collect.specs.Batchwise.{AreWholeOrders, Collects, HasTaken, HasTakenAll, IsBatchOf, IsBatchwise, IsCut, IsWholeOrder, is_full, joined, through}
+use Rattle.cov_collect.specs.Batchwise.{AreWholeOrders, Collects, HasTaken, HasTakenAll, IsBatchOf, IsBatchwise, IsWholeOrder, is_full, joined, through}
 use Rattle.cov_collect.specs.Collecting.{Collecting}
 use Rattle.cov_collect.specs.Shelves.{readings_of}
 use Rattle.cov_collect.proofs.Fitting.{fitting}
 use Rattle.cov_collect.proofs.Stays.{stays-refused}
 
 -- ---- lists
-
-all-append : {A : Type 0} (P : A → Type 0) (xs ys : List A) → AllByRecursion P xs → AllByRecursion P ys → AllByRecursion P (xs ++ ys)
-all-append P [] ys h k = k
-all-append P (x ∷ xs) ys h k = (h.0, all-append P xs ys h.1 k)
-
-all-take : {A : Type 0} (P : A → Type 0) (n : ℕ) (xs : List A) → AllByRecursion P xs → AllByRecursion P (take n xs)
-all-take P zero xs h = tt
-all-take P (suc n) [] h = tt
-all-take P (suc n) (x ∷ xs) h = (h.0, all-take P n xs h.1)
 
 take-front : {A : Type 0} (xs ys : List A) → take (length xs) (xs ++ ys) ≡ xs
 take-front [] ys = refl
@@ -46,16 +39,6 @@ pub front : {A : Type 0} (xs : List A) (x : A) → take (length (xs ++ x ∷ [])
 front xs x =
     let less : length (xs ++ x ∷ []) - 1 ≡ length xs = omega (arith, length-append xs (x ∷ [])) in
     ap (λ n. take n (xs ++ x ∷ [])) less ∙ take-front xs (x ∷ [])
-
-get-left : {A : Type 0} (xs ys : List A) (p : ℕ) → p < length xs → slice_get (xs ++ ys) p ≡ slice_get xs p
-get-left [] ys p l = absurd (omega arith)
-get-left (x ∷ xs) ys zero l = refl
-get-left (x ∷ xs) ys (suc p) l = get-left xs ys p (omega arith)
-
-get-past : {A : Type 0} (xs ys : List A) (p q : ℕ) → q ≡ length xs + p → slice_get (xs ++ ys) q ≡ slice_get ys p
-get-past [] ys p q is = ap (slice_get ys) (omega (arith, is))
-get-past (x ∷ xs) ys p zero is = absurd (omega (arith, is))
-get-past (x ∷ xs) ys p (suc q) is = get-past xs ys p q (omega (arith, is))
 
 picked-left : {A : Type 0} (xs ys : List A) (order : List ℕ) → AllByRecursion (λ p. p < length xs) order
     → filter_map (slice_get (xs ++ ys)) order ≡ filter_map (slice_get xs) order
@@ -106,7 +89,7 @@ distinct-more : (n : ℕ) (xs ys : List ℕ) → AllByRecursion (λ p. p < n) xs
 unfolding IsDistinct
 distinct-more n [] ys below h k = distinct-shift n ys k
 distinct-more n (x ∷ xs) ys below h k =
-    (all-append (λ z. nat_eq x z ≡ false) xs (map (λ place. n + place) ys) h.0 (apart-past n x below.0 ys), distinct-more n xs ys below.1 h.1 k)
+    (All-append (λ z. nat_eq x z ≡ false) xs (map (λ place. n + place) ys) h.0 (apart-past n x below.0 ys), distinct-more n xs ys below.1 h.1 k)
 
 eq-shift : (n p q : ℕ) → nat_eq (n + p) (n + q) ≡ nat_eq p q
 eq-shift n p q = by (nat_eq p q) refl
@@ -118,10 +101,6 @@ eq-shift n p q = by (nat_eq p q) refl
 any-shift : (n q : ℕ) (xs : List ℕ) → list_any (nat_eq (n + q)) (map (λ place. n + place) xs) ≡ list_any (nat_eq q) xs
 any-shift n q [] = refl
 any-shift n q (x ∷ xs) = ap (λ b. b || list_any (nat_eq (n + q)) (map (λ place. n + place) xs)) (eq-shift n q x) ∙ ap (λ b. nat_eq q x || b) (any-shift n q xs)
-
-or-true : (b : Bool) → (b || true) ≡ true
-or-true true = refl
-or-true false = refl
 
 every-more : (n m : ℕ) (order more : List ℕ) → ((place : ℕ) → place < n → list_any (nat_eq place) order ≡ true)
     → ((place : ℕ) → place < m → list_any (nat_eq place) more ≡ true)
@@ -140,7 +119,7 @@ every-more n m order more h k place below =
 whole-more : (n m : ℕ) (order more : List ℕ) → IsWholeOrder n order → IsWholeOrder m more → IsWholeOrder (n + m) (order ++ map (λ place. n + place) more)
 whole-more n m order more h k = record {
   order_is = record {
-    within = all-append (λ p. p < n + m) order (map (λ place. n + place) more) (below-more n m order h.order_is.within) (below-shift n m more k.order_is.within);
+    within = All-append (λ p. p < n + m) order (map (λ place. n + place) more) (below-more n m order h.order_is.within) (below-shift n m more k.order_is.within);
     distinct = distinct-more n order more h.order_is.within h.order_is.distinct k.order_is.distinct;
   };
   every = every-more n m order more h.every k.every;
@@ -306,8 +285,8 @@ Collects-full texts waiting text book answers all now is full taken left none h 
   whole =
       append-nil (joined (h.batches ++ all ∷ [])) ∙ joined-more h.batches all ∙ ap (λ xs. joined h.batches ++ xs) is
       ∙ sym (append_assoc (joined h.batches) waiting (text ∷ [])) ∙ ap (λ xs. xs ++ text ∷ []) h.whole;
-  each = all-append IsBatchOf h.batches (all ∷ []) h.each (subst IsBatchOf (sym is) (record { some = omega (arith, length-append waiting (text ∷ [])); ends = ap is_full (front waiting text) ∙ h.few }), tt);
-  full = all-append (λ (batch : Texts). is_full batch ≡ true) h.batches (all ∷ []) h.full (full, tt);
+  each = All-append IsBatchOf h.batches (all ∷ []) h.each (subst IsBatchOf (sym is) (record { some = omega (arith, length-append waiting (text ∷ [])); ends = ap is_full (front waiting text) ∙ h.few }), tt);
+  full = All-append (λ (batch : Texts). is_full batch ≡ true) h.batches (all ∷ []) h.full (full, tt);
   taken = taken h.batches h.taken;
   few = refl;
   fewer = refl;
@@ -322,7 +301,7 @@ HasTakenAll-full texts waiting book answers none h = record {
   cut = record {
     whole = sym (append-nil (joined h.batches)) ∙ ap (λ xs. joined h.batches ++ xs) (sym none) ∙ h.whole;
     each = h.each;
-    full = all-take (λ (batch : Texts). is_full batch ≡ true) (length h.batches - 1) h.batches h.full;
+    full = All-take (λ (batch : Texts). is_full batch ≡ true) (length h.batches - 1) h.batches h.full;
   };
   taken = h.taken;
 }
@@ -338,7 +317,7 @@ HasTakenAll-last texts waiting all book answers now is some taken h = record {
   batches = h.batches ++ all ∷ [];
   cut = record {
     whole = joined-more h.batches all ∙ ap (λ xs. joined h.batches ++ xs) is ∙ h.whole;
-    each = all-append IsBatchOf h.batches (all ∷ []) h.each (record { some = some; ends = ap (λ (ws : Texts). is_full (take (length ws - 1) ws)) is ∙ h.fewer }, tt);
+    each = All-append IsBatchOf h.batches (all ∷ []) h.each (record { some = some; ends = ap (λ (ws : Texts). is_full (take (length ws - 1) ws)) is ∙ h.fewer }, tt);
     full = subst (λ (bs : List Texts). AllByRecursion (λ (batch : Texts). is_full batch ≡ true) bs) (sym (front h.batches all)) h.full;
   };
   taken = taken h.batches h.taken;

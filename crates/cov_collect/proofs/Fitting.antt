@@ -13,7 +13,7 @@ use Rattle.cov_model.specs.declared.sums.Answer.{Answer}
 use Rattle.cov_model.specs.declared.sums.Answer.TheVariants.{Taken, Bad}
 use Rattle.cov_model.specs.declared.sums.SumFault.{SumFault}
 use Rattle.cov_model.specs.Sums.{fits, sum_fault}
-use Rattle.cov_model.specs.Outcome.{Reading, IsOrder, IsOutcome, outcome_list, picked, accepted_over, answers_over, joined, taken_or_past}
+use Rattle.cov_model.specs.Outcome.{Reading, IsOrder, IsOutcome, picked, accepted_over, answers_over, joined, taken_or_past}
 use Rattle.cov_model.proofs.Fits.{joins_where_it_fits}
 use Rattle.cov_model.proofs.Grows.{stays_past}
 use Rattle.cov_book.specs.Laws.{ComeToOne}
@@ -105,10 +105,6 @@ left-set (Some x ∷ xs) (suc p) r e =
     (subst (λ zs. IsPermutation zs (own r ++ (own x ++ rest))) (append_assoc (own x) (own r) rest)
     (subst (λ zs. IsPermutation ((own x ++ own r) ++ rest) zs) (append_assoc (own r) (own x) rest)
     (IsPermutation-append_left rest (own x ++ own r) (own r ++ own x) (IsPermutation-append_comm (own x) (own r)))))
-
-or-false : (a b : Bool) → (a || b) ≡ false → (a ≡ false) × (b ≡ false)
-or-false true b e = absurd cc
-or-false false b e = (refl, e)
 
 none-of : (p : ℕ) (ps : List ℕ) → AllByRecursion (λ q. nat_eq p q ≡ false) ps → list_any (nat_eq p) ps ≡ false
 none-of p [] h = refl

@@ -2,30 +2,25 @@
 use Rattle.std.proofs.Common.{◌≡◌, ℕ, zero, suc, ◌<◌, Bool, true, false, List, [], ◌∷◌, ◌++◌, length, map, refl, sym, ap, ◌∙◌}
 use Rattle.std.proofs.Common.{subst, arith, Some, None, nat_eq, slice_get, slice_set, replicate, get_or, Global}
 use Rattle.std.specs.Prelude.{Option, Vec, is_some, unwrap_or, option_map, filter_map, vec_items, ◌||◌}
-use Rattle.std.specs.List.{list_any, AllByRecursion, IsDistinct, cons_option}
+use Rattle.std.specs.List.{list_any, IsDistinct, cons_option}
 use Rattle.std.proofs.lemmas.List.Folds.{list_any-append}
 use Rattle.std.proofs.lemmas.List.Elements.{filter_map-append}
 use Rattle.std.proofs.lemmas.List.{length-set, length-map, length-replicate}
 use Rattle.std.proofs.lemmas.Option.{slice_get_within, slice_get-map, slice_get_read}
 use Rattle.std.proofs.lemmas.Bool.Decides.{nat_tests}
+use Rattle.std.proofs.lemmas.Bool.{or_parts}
+use Rattle.std.proofs.Math.Bool.{or-true, or-false}
 use Rattle.cov_model.specs.declared.snapshot.Snapshot.{Snapshot}
 use Rattle.cov_model.specs.declared.sums.Answer.{Answer}
 use Rattle.cov_model.specs.Outcome.{Reading, IsOrder, outcome_list, picked, after, answer_to, accepted_over, answers_over}
 use Rattle.cov_model.specs.Reading.{reading}
 use Rattle.cov_model.specs.Held.{Held}
+use Rattle.cov_model.proofs.Chains.{accepted-more, answers-more}
+use Rattle.cov_text.proofs.Each.{All-push}
 use Rattle.cov_book.specs.Stands.{StandsFor}
-use Rattle.cov_collect.specs.Shelved.{Shelved}
-use Rattle.cov_collect.specs.Shelves.{Tells, IsShelf, readings_of, answer_at, answers_in, given_of}
+use Rattle.cov_collect.specs.Shelves.{IsShelf, readings_of, answer_at, answers_in, given_of}
 use Rattle.cov_collect.specs.Batches.{AllAnswered, IsBatch}
 use Rattle.cov_collect.proofs.Stays.{stays-refused}
-
-all-push : {A : Type 0} (P : A → Type 0) (xs : List A) (y : A) → AllByRecursion P xs → P y → AllByRecursion P (xs ++ y ∷ [])
-all-push P [] y h p = (p, tt)
-all-push P (x ∷ xs) y h p = (h.0, all-push P xs y h.1 p)
-
-or-false : (a b : Bool) → (a || b) ≡ false → (a ≡ false) × (b ≡ false)
-or-false true b e = absurd cc
-or-false false b e = (refl, e)
 
 eq-swap : (a b : ℕ) → nat_eq a b ≡ false → nat_eq b a ≡ false
 eq-swap a b e = grind (arith, nat_tests)
@@ -34,8 +29,8 @@ distinct-push : (xs : List ℕ) (y : ℕ) → IsDistinct nat_eq xs → list_any 
 unfolding IsDistinct
 distinct-push [] y h none = (tt, tt)
 distinct-push (x ∷ xs) y h none =
-    let apart = or-false (nat_eq y x) (list_any (nat_eq y) xs) none in
-    (all-push (λ z. nat_eq x z ≡ false) xs y h.0 (eq-swap y x apart.0), distinct-push xs y h.1 apart.1)
+    let apart = or_parts (nat_eq y x) (list_any (nat_eq y) xs) none in
+    (All-push (λ z. nat_eq x z ≡ false) xs y h.0 (eq-swap y x apart.0), distinct-push xs y h.1 apart.1)
 
 -- the list at a place that was set, and at another
 get-set-same : {A : Type 0} (xs : List (Option A)) (i : ℕ) (a : Option A) → i < length xs → unwrap_or (slice_get (slice_set xs i a) i) None ≡ a
@@ -55,7 +50,7 @@ others-stay : (answers : List (Option Answer)) (order : List ℕ) (p : ℕ) (a :
     → answers_in (slice_set answers p (Some a)) order ≡ answers_in answers order
 others-stay answers [] p a none = refl
 others-stay answers (q ∷ qs) p a none =
-    let apart = or-false (nat_eq p q) (list_any (nat_eq p) qs) none in
+    let apart = or_parts (nat_eq p q) (list_any (nat_eq p) qs) none in
     ap (λ o. cons_option (unwrap_or o None) (answers_in (slice_set answers p (Some a)) qs)) (get-set-other answers p q (Some a) apart.0)
     ∙ ap (cons_option (answer_at answers q)) (others-stay answers qs p a apart.1)
 
@@ -67,30 +62,10 @@ answers-push answers order p a within none =
     ∙ ap (λ xs. xs ++ filter_map (answer_at set) (p ∷ [])) (others-stay answers order p a none)
     ∙ ap (λ o. answers_in answers order ++ cons_option o []) (get-set-same answers p (Some a) within)
 
--- the rule at one reading more
-answers_over-push : (held : List Snapshot) (rs : List Reading) (r : Reading)
-    → answers_over held (rs ++ r ∷ []) ≡ answers_over held rs ++ answer_to (accepted_over held rs) r ∷ []
-unfolding answers_over accepted_over
-answers_over-push held [] r = refl
-answers_over-push held (x ∷ rs) r = ap (λ xs. answer_to held x ∷ xs) (answers_over-push (after held x) rs r)
-
-accepted_over-push : (held : List Snapshot) (rs : List Reading) (r : Reading) → accepted_over held (rs ++ r ∷ []) ≡ after (accepted_over held rs) r
-unfolding accepted_over
-accepted_over-push held [] r = refl
-accepted_over-push held (x ∷ rs) r = accepted_over-push (after held x) rs r
-
 picked-push : (readings : List Reading) (order : List ℕ) (p : ℕ) (r : Reading) → slice_get readings p ≡ Some r
     → picked readings (order ++ p ∷ []) ≡ picked readings order ++ r ∷ []
 picked-push readings order p r is =
     filter_map-append (slice_get readings) order (p ∷ []) ∙ ap (λ o. picked readings order ++ cons_option o []) is
-
-or-true : (b : Bool) → (b || true) ≡ true
-or-true true = refl
-or-true false = refl
-
-or-none : (b : Bool) → (b || false) ≡ b
-or-none true = refl
-or-none false = refl
 
 -- whether a place has an answer, after one more
 answered-push : (answers : List (Option Answer)) (order : List ℕ) (p : ℕ) (a : Answer) → p < length answers
@@ -104,7 +79,7 @@ answered-push answers order p a within h place =
         let same : place ≡ p = grind (arith, nat_tests) in
         or-true (is_some (answer_at answers place)) ∙ sym (ap (λ q. is_some (answer_at (slice_set answers p (Some a)) q)) same ∙ ap is_some (get-set-same answers p (Some a) within))
     by false e =
-        or-none (is_some (answer_at answers place)) ∙ sym (ap (λ o. is_some (unwrap_or o None)) (get-set-other answers p place (Some a) (eq-swap place p e)))
+        or-false (is_some (answer_at answers place)) ∙ sym (ap (λ o. is_some (unwrap_or o None)) (get-set-other answers p place (Some a) (eq-swap place p e)))
 
 -- One text more is answered by the rule.
 pub IsShelf-push : (base : Held) (texts : List (List ℕ)) (answers : List (Option Answer)) (order now : List ℕ) (book next : Held)
@@ -123,7 +98,7 @@ IsShelf-push base texts answers order now book next p read a shelf is free then 
     let none : list_any (nat_eq p) order ≡ false = shelf.answered p ∙ ap is_some free in
     subst (λ o. IsShelf base texts (record { book = next; answers = slice_set answers p (Some a); order = o })) (sym then) (record {
       places = length-set answers p (Some a) ∙ shelf.places;
-      order = record { within = all-push (λ q. q < length texts) order p shelf.order.within below; distinct = distinct-push order p shelf.order.distinct none };
+      order = record { within = All-push (λ q. q < length texts) order p shelf.order.within below; distinct = distinct-push order p shelf.order.distinct none };
       answered = answered-push answers order p a within shelf.answered;
       tells = λ held stands.
           let told = shelf.tells held stands in
@@ -134,9 +109,9 @@ IsShelf-push base texts answers order now book next p read a shelf is free then 
                 answers-push answers order p a within none
                 ∙ ap (λ xs. xs ++ a ∷ []) told.outcome
                 ∙ ap (λ x. answers_over held (picked readings order) ++ x ∷ []) (answer list told.book)
-                ∙ sym (answers_over-push held (picked readings order) read)
+                ∙ sym (answers-more held (picked readings order) read)
                 ∙ sym (ap (answers_over held) more);
-            book = subst (StandsFor next) (sym (ap (accepted_over held) more ∙ accepted_over-push held (picked readings order) read)) (adds list told.book);
+            book = subst (StandsFor next) (sym (ap (accepted_over held) more ∙ accepted-more held (picked readings order) read)) (adds list told.book);
           };
     })
 

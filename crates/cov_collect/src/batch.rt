@@ -1,5 +1,5 @@
 //! A batch of texts, taken by workers.
-ghost use Rattle.std.specs.Prelude.{◌≡◌, ◌≤◌, ◌<◌, ◌^◌, ◌*◌, ◌/◌, ℕ, List, length, map, slice_get};
+ghost use Rattle.std.specs.Prelude.{◌≡◌, ◌≤◌, ◌<◌, ◌^◌, ◌*◌, ◌/◌, List, length, map, slice_get};
 ghost use Rattle.std.specs.Prelude.{Some, None, IfOk, OnOk, vec_items};
 ghost use Rattle.std.specs.Thread.{IsSync};
 ghost use Rattle.cov_model.specs.declared.snapshot.Snapshot.{Snapshot};

@@ -1,6 +1,6 @@
 //! What lies under the lock of a batch.
 ghost use Rattle.std.specs.Prelude.{◌≡◌, ◌∷◌, ◌++◌, ◌<◌, ◌^◌, [], ℕ, List, length, map, replicate};
-ghost use Rattle.std.specs.Prelude.{Some, None, is_some, slice_get, slice_set, nat_eq, true, false, filter_map};
+ghost use Rattle.std.specs.Prelude.{Some, None, is_some, slice_get, slice_set, nat_eq, true, false};
 ghost use Rattle.std.specs.Prelude.{IfOk, OnOk, OnErr, vec_items};
 ghost use Rattle.cov_model.specs.declared.snapshot.Snapshot.{Snapshot};
 ghost use Rattle.cov_model.specs.Outcome.{after, answer_to};

@@ -1,5 +1,5 @@
 -- Messages of the DevTools protocol's Profiler domain: what a text asks for, and how a request is written.
-use Rattle.std.specs.Prelude.{ℕ, Bool, true, false, List, map, if◌then◌else◌, Option, None, Some, option_map, option_and_then, is_some, codes}
+use Rattle.std.specs.Prelude.{ℕ, Bool, true, false, List, if◌then◌else◌, Option, None, Some, option_map, option_and_then, is_some, codes}
 use Rattle.serde_json.specs.Data.{Data, number, unsigned, boolean, string, object, Members, no_members, member}
 use Rattle.serde_json.specs.Find.{get, as_str, as_bool, as_object}
 use Rattle.serde_json.specs.Written.{compact_text}

@@ -1,5 +1,5 @@
 //! JSON values of scripts, functions and ranges.
-ghost use Rattle.std.specs.Prelude.{◌≡◌, IfOk, string_bytes, decimal};
+ghost use Rattle.std.specs.Prelude.{◌≡◌, IfOk};
 ghost use Rattle.serde_json.specs.Data.{Data, array};
 ghost use Rattle.serde_json.specs.View.{view};
 ghost use Rattle.json_shapes.specs.Shapes.{array_of};

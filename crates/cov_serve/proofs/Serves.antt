@@ -2,7 +2,7 @@
 use Rattle.std.proofs.Common.{◌≡◌, ℕ, zero, suc, ◌+◌, ◌*◌, ◌<◌, Bool, true, false, List, [], ◌∷◌, ◌++◌, length, map, set, get_or, min, refl, sym, ap, ◌∙◌, subst, arith, length-append, length-set, get_or-set_same, append-nil}
 use Rattle.std.specs.Prelude.{Result, Ok, Err, OnOk, OnErr, Option, None, Some, slice_get, if◌then◌else◌}
 use Rattle.std.specs.Option.{option_to_list}
-use Rattle.std.proofs.lemmas.Bool.{eq-eqb}
+use Rattle.std.proofs.lemmas.Bool.{eq-eqb, and_parts, and_from}
 use Rattle.std.proofs.lemmas.List.Sums.{sum_by-append}
 use Rattle.cov_text.specs.Listing.{counted}
 use Rattle.cov_model.specs.declared.snapshot.Snapshot.{Snapshot}
@@ -17,17 +17,16 @@ use Rattle.cov_session.specs.View.{taken_view, reply_of}
 use Rattle.cov_session.specs.declared.session.Take.{Take}
 use Rattle.cov_session.specs.Machine.{Answered, Done, Started, Refused, State, runs, desk_at, idle, dropped, with_desk, dropped_unless, resumed, with_take, take_of, played_by_take, step, answer_to, started_after, taken_after, stopped_after, taken_answer, replied, size_of, frames}
 use Rattle.cov_session.specs.Kept.{IsKept}
-use Rattle.cov_session.proofs.Keeps.{and_true, both_true}
 use Rattle.cov_serve.specs.Served.{start_of, starts_of, is_paced, IsServed}
 use Rattle.cov_serve.specs.Seats.{Seated, new_seat, new_seats}
 use Rattle.cov_serve.specs.Answering.{take_judged, judged, IsBlock, IsAnswered, take_reply}
 
 paced-push : (len pace k : ℕ) (ts : List Take) (t : Take) → is_paced len pace k ts ≡ true → t.since ≡ min len (pace * (k + length ts)) → t.played ≡ min len (t.since + pace) → is_paced len pace k (ts ++ t ∷ []) ≡ true
-paced-push len pace k [] t h e p = both_true _ _ (eq-eqb _ _ (e ∙ ap (λ n. min len (pace * n)) (omega arith))) (both_true _ _ (eq-eqb _ _ p) refl)
+paced-push len pace k [] t h e p = and_from _ _ (eq-eqb _ _ (e ∙ ap (λ n. min len (pace * n)) (omega arith))) (and_from _ _ (eq-eqb _ _ p) refl)
 paced-push len pace k (x ∷ ts) t h e p =
-    let a = and_true _ _ h in
-    let b = and_true _ _ a.1 in
-    both_true _ _ a.0 (both_true _ _ b.0 (paced-push len pace (k + 1) ts t b.1 (e ∙ ap (λ n. min len (pace * n)) (omega arith)) p))
+    let a = and_parts _ _ h in
+    let b = and_parts _ _ a.1 in
+    and_from _ _ a.0 (and_from _ _ b.0 (paced-push len pace (k + 1) ts t b.1 (e ∙ ap (λ n. min len (pace * n)) (omega arith)) p))
 
 next_block : (len rate k since : ℕ) → since ≡ min len (rate * k) → min len (since + rate) ≡ min len (rate * (k + 1))
 next_block len rate k since e = omega (arith, e)

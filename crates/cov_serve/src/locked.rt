@@ -1,5 +1,5 @@
 //! What stands behind the lock, and what a session holds beside it.
-ghost use Rattle.std.specs.Prelude.{◌≡◌, ℕ, ◌<◌, ◌++◌, List, [], length, true, IfOk, OnErr, OnOk, slice_get};
+ghost use Rattle.std.specs.Prelude.{◌≡◌, ℕ, ◌<◌, ◌++◌, List, [], length, true, IfOk, OnErr, slice_get};
 ghost use Rattle.std.specs.Option.{option_to_list};
 ghost use Rattle.cov_model.specs.declared.snapshot.Snapshot.{Snapshot};
 ghost use Rattle.cov_session.specs.Machine.{replied};

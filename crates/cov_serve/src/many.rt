@@ -1,6 +1,5 @@
 //! Several sessions at once.
 ghost use Rattle.std.specs.Prelude.{◌≡◌, ◌<◌, ℕ, length, get_or};
-ghost use Rattle.std.specs.Thread.{IsSync};
 ghost use Rattle.cov_serve.specs.Serving.{Ends};
 
 use crate::{Seat, SharedTarget, Show, serve_session};

@@ -1,8 +1,8 @@
 -- Each step of the machine keeps what holds of a target.
-use Rattle.std.proofs.Common.{◌≡◌, ℕ, zero, suc, ◌+◌, ◌-◌, ◌<◌, ◌≤◌, Bool, true, false, ◌&&◌, ◌||◌, List, [], ◌∷◌, ◌++◌, length, set, get_or, replicate, refl, sym, ap, ◌∙◌, arith, append_assoc, append-nil, length-append}
+use Rattle.std.proofs.Common.{◌≡◌, ℕ, zero, suc, ◌+◌, ◌-◌, ◌<◌, ◌≤◌, Bool, true, false, ◌||◌, List, [], ◌∷◌, ◌++◌, length, set, get_or, replicate, refl, sym, ap, ◌∙◌, arith, append_assoc, append-nil, length-append}
 use Rattle.std.specs.Prelude.{Option, None, Some, is_some, count_by, nat_le, ◌==◌, ◌≢◌, cond}
 use Rattle.std.specs.List.{list_all}
-use Rattle.std.proofs.lemmas.Bool.{eq-eqb}
+use Rattle.std.proofs.lemmas.Bool.{eq-eqb, and_parts, and_from, le-leb}
 use Rattle.std.proofs.lemmas.Bool.Decides.{nat_tests}
 use Rattle.std.proofs.lemmas.List.Sums.{sum_by-append, count_by-le-length}
 use Rattle.std.proofs.lemmas.List.{set-get_or, get_or-set_other, length-set, length-replicate}
@@ -15,18 +15,8 @@ use Rattle.cov_session.specs.Machine.{State, state, idle_desks, runs, desk_at, i
 use Rattle.cov_model.specs.Sums.{fits}
 use Rattle.cov_session.specs.Kept.{IsKept, IsSound, is_chain, is_numbered, is_proper}
 
-pub and_true : (a b : Bool) → (a && b) ≡ true → (a ≡ true) × (b ≡ true)
-and_true true b e = (refl, e)
-and_true false b e = cc
-
-pub both_true : (a b : Bool) → a ≡ true → b ≡ true → (a && b) ≡ true
-both_true a b p q = ap (λ x. x && b) p ∙ q
-
 le_wider : (n a b : ℕ) → nat_le n a ≡ true → a ≤ b → nat_le n b ≡ true
 le_wider n a b h le = grind (arith, nat_tests)
-
-is_le : (a b : ℕ) → a ≤ b → nat_le a b ≡ true
-is_le a b le = grind (arith, nat_tests)
 
 -- ---- desks
 
@@ -37,30 +27,30 @@ runs-set (x ∷ xs) (suc n) d e = ap (λ b. is_started x || b) (runs-set xs n d 
 
 pub proper-set : (desks : List Desk) (n : ℕ) (d : Desk) → list_all is_proper desks ≡ true → is_proper d ≡ true → list_all is_proper (set desks n d) ≡ true
 proper-set [] n d h p = refl
-proper-set (x ∷ xs) zero d h p = both_true _ _ p (and_true _ _ h).1
-proper-set (x ∷ xs) (suc n) d h p = both_true _ _ (and_true _ _ h).0 (proper-set xs n d (and_true _ _ h).1 p)
+proper-set (x ∷ xs) zero d h p = and_from _ _ p (and_parts _ _ h).1
+proper-set (x ∷ xs) (suc n) d h p = and_from _ _ (and_parts _ _ h).0 (proper-set xs n d (and_parts _ _ h).1 p)
 
 -- ---- takes
 
 pub chain-wider : (from : ℕ) (ts : List Take) (a b : ℕ) → is_chain from ts a ≡ true → a ≤ b → is_chain from ts b ≡ true
 chain-wider from [] a b h le = le_wider from a b h le
 chain-wider from (t ∷ ts) a b h le =
-    let p = and_true _ _ h in
-    let q = and_true _ _ p.1 in
-    both_true _ _ p.0 (both_true _ _ q.0 (chain-wider t.played ts a b q.1 le))
+    let p = and_parts _ _ h in
+    let q = and_parts _ _ p.1 in
+    and_from _ _ p.0 (and_from _ _ q.0 (chain-wider t.played ts a b q.1 le))
 
 pub chain-push : (from : ℕ) (ts : List Take) (t : Take) → is_chain from ts t.since ≡ true → t.since ≤ t.played → is_chain from (ts ++ t ∷ []) t.played ≡ true
-chain-push from [] t h le = both_true _ _ h (both_true _ _ (is_le _ _ le) (is_le t.played t.played (omega arith)))
+chain-push from [] t h le = and_from _ _ h (and_from _ _ (le-leb _ _ le) (le-leb t.played t.played (omega arith)))
 chain-push from (x ∷ ts) t h le =
-    let p = and_true _ _ h in
-    let q = and_true _ _ p.1 in
-    both_true _ _ p.0 (both_true _ _ q.0 (chain-push x.played ts t q.1 le))
+    let p = and_parts _ _ h in
+    let q = and_parts _ _ p.1 in
+    and_from _ _ p.0 (and_from _ _ q.0 (chain-push x.played ts t q.1 le))
 
 pub numbered-push : (earlier ts : List Take) (t : Take) → is_numbered earlier ts ≡ true → t.number ≡ count_by (λ e. e.session == t.session) (earlier ++ ts) → is_numbered earlier (ts ++ t ∷ []) ≡ true
-numbered-push earlier [] t h e = both_true _ _ (eq-eqb _ _ (e ∙ ap (count_by (λ x. x.session == t.session)) (append-nil earlier))) refl
+numbered-push earlier [] t h e = and_from _ _ (eq-eqb _ _ (e ∙ ap (count_by (λ x. x.session == t.session)) (append-nil earlier))) refl
 numbered-push earlier (x ∷ ts) t h e =
-    let p = and_true _ _ h in
-    both_true _ _ p.0 (numbered-push (earlier ++ x ∷ []) ts t p.1 (e ∙ ap (count_by (λ y. y.session == t.session)) (sym (append_assoc earlier (x ∷ []) ts))))
+    let p = and_parts _ _ h in
+    and_from _ _ p.0 (numbered-push (earlier ++ x ∷ []) ts t p.1 (e ∙ ap (count_by (λ y. y.session == t.session)) (sym (append_assoc earlier (x ∷ []) ts))))
 
 -- ---- states
 

@@ -1,11 +1,12 @@
 -- Snapshots that are added in order, one after the other: the first fault is absent exactly where the sums of all fit, and
 -- those of a part fit then too.
-use Rattle.std.proofs.Common.{◌≡◌, ℕ, ◌-◌, ◌≤◌, Bool, true, ◌&&◌, List, [], ◌∷◌, ◌++◌, map, take, drop, refl, sym, ap, ◌∙◌, arith, append_assoc, append-nil}
+use Rattle.std.proofs.Common.{◌≡◌, ℕ, ◌-◌, ◌≤◌, Bool, true, List, [], ◌∷◌, ◌++◌, map, take, drop, refl, sym, ap, ◌∙◌, arith, append_assoc, append-nil}
 use Rattle.std.specs.Prelude.{Option, None, Some, is_none, nat_le, flat_map}
 use Rattle.std.specs.List.{list_all}
 use Rattle.std.proofs.lemmas.Bool.Decides.{nat_tests}
 use Rattle.std.proofs.lemmas.List.{take-append-drop}
 use Rattle.std.proofs.lemmas.List.Folds.{list_all-append, list_all-map}
+use Rattle.std.proofs.lemmas.Bool.{and_from}
 use Rattle.cov_text.specs.Listing.{limit}
 use Rattle.cov_model.specs.declared.snapshot.Snapshot.{Snapshot}
 use Rattle.cov_model.specs.declared.sums.Key.{Key}
@@ -16,7 +17,7 @@ use Rattle.cov_model.specs.Sums.{sum_at, points, keys_in_order, fits, sum_fault}
 use Rattle.cov_model.proofs.Examples.{cov_on_literals}
 use Rattle.cov_model.proofs.Fits.{joins_where_it_fits}
 use Rattle.cov_model.proofs.Grows.{is_within_limit, fits-each, sum_at-append}
-use Rattle.cov_steps.proofs.Checks.{all-more}
+use Rattle.cov_text.proofs.Bools.{all-more}
 use Rattle.cov_book.specs.declared.book.AddFault.{AddFault}
 use Rattle.cov_book.specs.declared.book.AddFault.TheVariants.{Sum, NoMemory}
 use Rattle.cov_book.specs.Stands.{TellsSum}
@@ -48,9 +49,6 @@ within-part before part behind key h =
     (λ at e. less-within (sum_at part key at) (sum_at all key at) (omega (arith, sum_at-append (before ++ part) behind key at, sum_at-append before part key at)) e)
     (points key) h
 
-two-true : (a b : Bool) → a ≡ true → b ≡ true → (a && b) ≡ true
-two-true a b p q = ap (λ x. x && b) p ∙ q
-
 abbrev is-within : List Snapshot → Key × At → Bool
 is-within snapshots at = nat_le (sum_at snapshots at.0 at.1) limit
 
@@ -61,7 +59,7 @@ each-within snapshots h (key ∷ keys) =
     let here : List (Key × At) = map (λ (point : At). (key, point)) (points key) in
     let rest : List (Key × At) = flat_map (λ (key : Key). map (λ (point : At). (key, point)) (points key)) keys in
     list_all-append (is-within snapshots) here rest
-    ∙ two-true (list_all (is-within snapshots) here) (list_all (is-within snapshots) rest) (list_all-map (is-within snapshots) (λ (point : At). (key, point)) (points key) ∙ h key) (each-within snapshots h keys)
+    ∙ and_from (list_all (is-within snapshots) here) (list_all (is-within snapshots) rest) (list_all-map (is-within snapshots) (λ (point : At). (key, point)) (points key) ∙ h key) (each-within snapshots h keys)
 
 part-fits : (before part behind : List Snapshot) → fits ((before ++ part) ++ behind) ≡ true → fits part ≡ true
 unfolding fits

@@ -1,8 +1,8 @@
 //! The client of a target: its script of requests, and what it hears.
-ghost use Rattle.std.specs.Prelude.{◌≡◌, ◌+◌, ◌≤◌, ◌==◌, if◌then◌else◌, Option, option_map, string_bytes, slice_get, Ok, Err, IsSome, IfOk, IfErr, OnErr};
+ghost use Rattle.std.specs.Prelude.{◌≡◌, ◌+◌, ◌≤◌, ◌==◌, if◌then◌else◌, Option, option_map, string_bytes, slice_get, Ok, Err, IsSome, IfOk, OnErr};
 ghost use Rattle.serde_json.specs.View.{view};
 ghost use Rattle.cov_model.specs.Reading as reading;
-ghost use Rattle.cov_messages.specs.Replies.{meant, event, answer, refusal};
+ghost use Rattle.cov_messages.specs.Replies.{event, answer, refusal};
 ghost use Rattle.cov_session.specs.declared.client.HearFault.TheVariants.{NoMemory};
 ghost use Rattle.cov_session.specs.Script as spec;
 ghost use Rattle.cov_session.specs.Script.{Talk, Hears, HearFails, heard_as, talk_after};

@@ -1,5 +1,5 @@
 //! A whole list of events, and what becomes of each frame.
-ghost use Rattle.std.specs.Prelude.{◌≡◌, ◌++◌, ◌<◌, ◌≤◌, ◌^◌, None, All, nat_lt, length, replicate, option_map, IfOk, IfErr, OnOk};
+ghost use Rattle.std.specs.Prelude.{◌≡◌, ◌++◌, ◌<◌, ◌^◌, None, All, nat_lt, length, replicate, option_map, IfOk, IfErr, OnOk};
 ghost use Rattle.cov_session.specs.Machine.{start, after, answer, answers};
 ghost use Rattle.cov_session.specs.Fates.{fates, given, IsWithin};
 ghost use Rattle.cov_session.specs.Laws.{AreOfTheirFates};

@@ -4,12 +4,13 @@ use Rattle.std.specs.Prelude.{Option, None, Some, fold, max, nat_le, ◌&&◌, �
 use Rattle.std.specs.List.{list_all, prefix_len, cons_option, between}
 use Rattle.std.specs.Char.{is_ascii_digit}
 use Rattle.std.specs.Str.Iter.{HasSubslice}
-use Rattle.std.proofs.lemmas.Bool.{leb-true, le-leb, lt-leb}
+use Rattle.std.proofs.lemmas.Bool.{leb-true, le-leb, lt-leb, or_right, and_parts}
 use Rattle.std.proofs.lemmas.List.{take_all, at_drop_more}
 use Rattle.std.proofs.Math.Nat.{pow-le-pow_right}
 use Rattle.std.proofs.lemmas.Bool.Decides.{Decides-eqb}
 use Rattle.std.proofs.lemmas.Slice.Eq.{starts_is}
 use Rattle.cov_text.specs.Listing.{begins_with}
+use Rattle.cov_text.proofs.Bools.{same-tests}
 use Rattle.istanbul_rules.specs.Ignored.{contains, nexts, next_here, spelt, number_before_end}
 
 begins-front : (front text : List ℕ) → begins_with front text ≡ true → text ≡ front ++ drop (length front) text
@@ -17,10 +18,6 @@ begins-front front text e = (starts_is Decides-eqb text front (begins_with front
 
 begins-from : (front rest : List ℕ) → begins_with front (front ++ rest) ≡ true
 begins-from front rest = (starts_is Decides-eqb (front ++ rest) front (begins_with front (front ++ rest)) refl).1 rest refl
-
-or_true : (a b : Bool) → b ≡ true → (a || b) ≡ true
-or_true true b e = refl
-or_true false b e = e
 
 stands_in : (comment line : List ℕ) → contains comment line ≡ true → HasSubslice line comment
 stands_in comment [] e =
@@ -42,24 +39,15 @@ contained_here comment (b ∷ line) e = ap (λ t. t || contains comment line) e
 
 contained : (comment front rest : List ℕ) → contains comment (front ++ (comment ++ rest)) ≡ true
 contained comment [] rest = contained_here comment (comment ++ rest) (begins-from comment rest)
-contained comment (b ∷ front) rest = or_true (begins_with comment (b ∷ (front ++ (comment ++ rest)))) (contains comment (front ++ (comment ++ rest))) (contained comment front rest)
-
-same_tests : (a b : Bool) → (a ≡ true → b ≡ true) → (b ≡ true → a ≡ true) → a ≡ b
-same_tests true b f g = sym (f refl)
-same_tests false true f g = g refl
-same_tests false false f g = refl
+contained comment (b ∷ front) rest = or_right (begins_with comment (b ∷ (front ++ (comment ++ rest)))) (contains comment (front ++ (comment ++ rest))) (contained comment front rest)
 
 pub contains_is : (r : Bool) (comment line : List ℕ) → (r ≡ true) ↔ HasSubslice line comment → r ≡ contains comment line
 contains_is r comment line is =
-    same_tests r (contains comment line)
+    same-tests r (contains comment line)
     (λ yes_. let s = is.0 yes_ in ap (contains comment) s.2 ∙ contained comment s.0 s.1)
     (λ yes_. is.1 (stands_in comment line yes_))
 
 -- ---- numbers
-
-both : (a b : Bool) → (a && b) ≡ true → (a ≡ true) × (b ≡ true)
-both true b e = (refl, e)
-both false b e = cc
 
 pub digits_before : (bytes : List ℕ) → list_all is_ascii_digit (take (prefix_len is_ascii_digit bytes) bytes) ≡ true
 digits_before [] = refl
@@ -152,10 +140,10 @@ number_there bytes n number is some few ended value =
 digit_below : (ds : List ℕ) (i : ℕ) → list_all is_ascii_digit ds ≡ true → i < length ds → get_or ds i 0 - 48 ≤ 9
 digit_below [] i all lt = absurd (omega arith)
 digit_below (d ∷ ds) zero all lt =
-    let first = both (is_ascii_digit d) (list_all is_ascii_digit ds) all in
-    let top = leb-true d 57 (both (nat_le 48 d) (nat_le d 57) first.0).1 in
+    let first = and_parts (is_ascii_digit d) (list_all is_ascii_digit ds) all in
+    let top = leb-true d 57 (and_parts (nat_le 48 d) (nat_le d 57) first.0).1 in
     omega arith
-digit_below (d ∷ ds) (suc i) all lt = digit_below ds i (both (is_ascii_digit d) (list_all is_ascii_digit ds) all).1 (omega arith)
+digit_below (d ∷ ds) (suc i) all lt = digit_below ds i (and_parts (is_ascii_digit d) (list_all is_ascii_digit ds) all).1 (omega arith)
 
 -- nine digits spell a number of 32 bits
 pub number_fits : (ds : List ℕ) (n i : ℕ) → list_all is_ascii_digit ds ≡ true → length ds ≤ 9 → i < length ds → n < 10 ^ i → 10 * n + (get_or ds i 0 - 48) < 4294967296

@@ -2,17 +2,13 @@
 use Rattle.std.proofs.Common.{◌≡◌, ℕ, suc, ◌+◌, ◌-◌, ◌<◌, ◌≤◌, Bool, true, false, cond, List, [], ◌∷◌, ◌++◌, length, get_or, refl, sym, ap, ◌∙◌, subst, subst₂, arith, append_assoc, add-one, drop}
 use Rattle.std.specs.Prelude.{map, filter, nat_le, ◌&&◌}
 use Rattle.std.specs.List.Sorted.{IsNonDecreasingBy}
-use Rattle.std.proofs.lemmas.Bool.{leb-true, le-leb}
+use Rattle.std.proofs.lemmas.Bool.{leb-true, le-leb, and_parts}
 use Rattle.std.proofs.lemmas.List.{get_or_default, map-append}
 use Rattle.std.proofs.Math.Seq.{drop-cons}
 use Rattle.cov_text.specs.Listing.{last_or}
 use Rattle.cov_model.specs.declared.report.Range.{Range}
 use Rattle.istanbul_rules.specs.declared.painting.Stretch.{Stretch}
 use Rattle.istanbul_rules.specs.Painting.{covers, count_over, LiesBetween, IsSameBetween, IsDecided}
-
-both : (a b : Bool) → (a && b) ≡ true → (a ≡ true) × (b ≡ true)
-both true b e = (refl, e)
-both false b e = cc
 
 abbrev kept : Bool → Range → List Range → List Range
 kept t r rest = cond t (r ∷ rest) rest
@@ -42,7 +38,7 @@ abbrev from_to : ℕ → ℕ → Stretch
 from_to start end = record { start = start; end = end }
 
 covers-parts : (s : Stretch) (r : Range) → covers s r ≡ true → (r.start ≤ s.start) × (s.end ≤ r.end)
-covers-parts s r e = let p = both (nat_le r.start s.start) (nat_le s.end r.end) e in (leb-true r.start s.start p.0, leb-true s.end r.end p.1)
+covers-parts s r e = let p = and_parts (nat_le r.start s.start) (nat_le s.end r.end) e in (leb-true r.start s.start p.0, leb-true s.end r.end p.1)
 
 covers-from : (s : Stretch) (r : Range) → r.start ≤ s.start → s.end ≤ r.end → covers s r ≡ true
 covers-from s r a b = let p : nat_le r.start s.start ≡ true = le-leb r.start s.start a in let q : nat_le s.end r.end ≡ true = le-leb s.end r.end b in (λ i. p i && q i)

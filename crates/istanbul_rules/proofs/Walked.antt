@@ -5,6 +5,7 @@ use Rattle.std.specs.List.{list_any, between}
 use Rattle.std.proofs.lemmas.Bool.{cases_lt, lt-ltb, le-ltb, le-leb, lt-leb}
 use Rattle.std.proofs.lemmas.List.{map-append, take_all, take-append-le, drop-append-le}
 use Rattle.std.proofs.lemmas.List.Folds.{list_any-append}
+use Rattle.std.proofs.Math.Bool.{or-false}
 use Rattle.cov_text.specs.Listing.{counted, offsets}
 use Rattle.istanbul_rules.specs.Ignored.{has_start, has_stop, nexts, passes_at, is_stopped_until, is_next, is_ignored, marks}
 use Rattle.istanbul_rules.specs.Walk.{covered, is_open, Reaches}
@@ -56,10 +57,6 @@ or_and true true false = refl
 or_and true false true = refl
 or_and true false false = refl
 or_and false b c = refl
-
-or_false : (a : Bool) → (a || false) ≡ a
-or_false true = refl
-or_false false = refl
 
 any_or : {A : Type 0} (f g : A → Bool) (xs : List A) → list_any (λ x. f x || g x) xs ≡ (list_any f xs || list_any g xs)
 any_or f g [] = refl
@@ -115,7 +112,7 @@ ignored_before ys x i lt =
 
 -- a list of tests, one more at its end
 any_more : (f : ℕ → Bool) (n : ℕ) → list_any f (offsets 0 (suc n)) ≡ (list_any f (offsets 0 n) || f n)
-any_more f n = ap (list_any f) (offsets_more n) ∙ list_any-append f (offsets 0 n) (n ∷ []) ∙ ap (λ t. list_any f (offsets 0 n) || t) (or_false (f n))
+any_more f n = ap (list_any f) (offsets_more n) ∙ list_any-append f (offsets 0 n) (n ∷ []) ∙ ap (λ t. list_any f (offsets 0 n) || t) (or-false (f n))
 
 nothing_between : (zs : List (List ℕ)) (n : ℕ) → list_any has_stop (between n n zs) ≡ false
 nothing_between zs n = let e : n - n ≡ 0 = omega arith in ap (λ k. list_any has_stop (take k (drop n zs))) e
@@ -178,7 +175,7 @@ below_either i k a m =
     ]
 
 reach_of : (i k a : ℕ) (ns : List ℕ) → nat_lt i (k + fold (λ a n. max a (suc n)) a ns) ≡ (nat_lt i (k + a) || list_any (λ n. nat_le i (k + n)) ns)
-reach_of i k a [] = sym (or_false (nat_lt i (k + a)))
+reach_of i k a [] = sym (or-false (nat_lt i (k + a)))
 reach_of i k a (m ∷ ns) =
     reach_of i k (max a (suc m)) ns
     ∙ ap (λ t. t || list_any (λ n. nat_le i (k + n)) ns) (below_either i k a m)

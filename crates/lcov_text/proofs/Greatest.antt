@@ -12,6 +12,7 @@ use Rattle.std.specs.Ordering.{nat_cmp, is_eq, match_ordering, ordering_reverse}
 use Rattle.std.proofs.lemmas.Bool.Decides.{nat_tests}
 use Rattle.std.proofs.lemmas.Cmp.{nat_cmp_total}
 use Rattle.std.proofs.lemmas.Map.Lookups.{exact_unsigned}
+use Rattle.std.proofs.lemmas.Bool.{or_parts}
 use Rattle.cov_text.specs.Listing.{inserted}
 use Rattle.istanbul_json.specs.declared.file.Statement.{Statement}
 use Rattle.istanbul_json.specs.declared.file.FileParts.{FileParts}
@@ -49,10 +50,6 @@ itself a = grind (arith, nat_tests)
 
 apart : (a b : ℕ) → is_at (nat_cmp b) a ≡ false → (a == b) ≡ false
 apart a b e = grind (arith, nat_tests)
-
-neither : (a b : Bool) → (a || b) ≡ false → (a ≡ false) × (b ≡ false)
-neither true b e = absurd cc
-neither false b e = (refl, e)
 
 -- ---- what is known of a line
 
@@ -93,15 +90,15 @@ sorted_insert (y ∷ ys) x h = by (nat_cmp x y) refl (sorted_insert ys x h.1)
 
 -- what is there after an insert was there before, or is what was inserted
 still_apart : (q x : ℕ) (xs : List ℕ) → has q (insert_key nat_cmp xs x) ≡ false → (is_at (nat_cmp q) x ≡ false) × (has q xs ≡ false)
-still_apart q x [] e = neither (is_at (nat_cmp q) x) false e
+still_apart q x [] e = or_parts (is_at (nat_cmp q) x) false e
 still_apart q x (y ∷ ys) e = by (nat_cmp x y) refl e (still_apart q x ys)
   where
     by : (o : Ordering) → nat_cmp x y ≡ o → has q (match_ordering o (x ∷ y ∷ ys) (y ∷ ys) (y ∷ insert_key nat_cmp ys x)) ≡ false
         → (has q (insert_key nat_cmp ys x) ≡ false → (is_at (nat_cmp q) x ≡ false) × (has q ys ≡ false)) → (is_at (nat_cmp q) x ≡ false) × (has q (y ∷ ys) ≡ false)
-    by Less c h rest = neither (is_at (nat_cmp q) x) (has q (y ∷ ys)) h
-    by Equal c h rest = (ap (is_at (nat_cmp q)) (equal_is x y c) ∙ (neither (is_at (nat_cmp q) y) (has q ys) h).0, h)
+    by Less c h rest = or_parts (is_at (nat_cmp q) x) (has q (y ∷ ys)) h
+    by Equal c h rest = (ap (is_at (nat_cmp q)) (equal_is x y c) ∙ (or_parts (is_at (nat_cmp q) y) (has q ys) h).0, h)
     by Greater c h rest =
-        let p = neither (is_at (nat_cmp q) y) (has q (insert_key nat_cmp ys x)) h in
+        let p = or_parts (is_at (nat_cmp q) y) (has q (insert_key nat_cmp ys x)) h in
         let r = rest p.1 in
         (r.0, ap (λ b. b || has q ys) p.0 ∙ r.1)
 
