@@ -89,7 +89,7 @@ module _ {W O E : Type 0} (duty : Duty W) (before mid : Moment W O E) (err : Sin
   now : Moment W O E
   now = moment mid.world mid.out err
 
-  finished-err : LastLine mid.err err (last_line ended) → IsFinished ended → err ≡ mid.err
+  finished-err : LastLine mid.err err ended → IsFinished ended → err ≡ mid.err
   finished-err last finished = last.none (finished-line ended finished)
 
   ended-short : (owed : Owed) → EndsAs owed ended → IsFinishedOrShort owed.ended → (ended ≡ WriteFault → ⊥) → IsFinishedOrShort ended
@@ -102,7 +102,7 @@ module _ {W O E : Type 0} (duty : Duty W) (before mid : Moment W O E) (err : Sin
   as-owed owed other (inr (inl is)) not_write not_short e = absurd (not_write (sym e ∙ is))
   as-owed owed other (inr (inr is)) not_write not_short e = absurd (not_short (sym e ∙ is))
 
-  pub ran : IsLawful duty → Runs duty before mid ended → LastLine mid.err err (last_line ended) → Ran duty before (moment mid.world mid.out err) ended
+  pub ran : IsLawful duty → Runs duty before mid ended → LastLine mid.err err ended → Ran duty before (moment mid.world mid.out err) ended
   ran law runs last =
       let puts = runs.puts in
       let owed = runs.owed in
@@ -144,7 +144,7 @@ module _ {W O E : Type 0} (duty : Duty W) (before mid : Moment W O E) (err : Sin
       }
 
 pub called : {C W O E : Type 0} (duty : C → Duty W) (asked : Option C) (before mid : Moment W O E) (err : SinkAt E) (ended : Ended)
-    → ((command : C) → IsLawful (duty command)) → Asks duty asked before mid ended → LastLine mid.err err (last_line ended)
+    → ((command : C) → IsLawful (duty command)) → Asks duty asked before mid ended → LastLine mid.err err ended
     → Call duty asked before (moment mid.world mid.out err) ended
 called {C} {W} {O} {E} duty asked before mid err ended law asks last = record {
   usage = λ none.

@@ -3,7 +3,7 @@ use Rattle.std.proofs.Common.{◌≡◌, ℕ, Bool, true, false, [], refl, sym, 
 use Rattle.std.specs.Prelude.{◌⊎◌, cond, ◌==◌}
 use Rattle.cov_words.specs.declared.command.Run.{Run}
 use Rattle.cov_commands.specs.declared.ended.Ended.{Ended}
-use Rattle.cov_commands.specs.declared.ended.Ended.TheVariants.{Done, Different, Below, Usage, SomeRefused, ReadFault, WriteFault, SpawnFault, Child, NoMemory}
+use Rattle.cov_commands.specs.declared.ended.Ended.TheVariants.{Done, Different, Below, Usage, SomeRefused, ReadFault, WriteFault, SpawnFault, LinkFault, PeerFault, Child, NoMemory}
 use Rattle.cov_commands.specs.Child.{ChildWorld, HasNotRun, Reported, Unstarted, child_duty, child_end, ended_as}
 use Rattle.cov_commands.specs.Ends.{IsFinished, IsFinishedOrShort}
 use Rattle.cov_commands.specs.Owed.{Owed, early}
@@ -23,6 +23,8 @@ from-as status SomeRefused other is plain = absurd (plain status (sym is))
 from-as status ReadFault other is plain = is
 from-as status WriteFault other is plain = is
 from-as status SpawnFault other is plain = is
+from-as status LinkFault other is plain = is
+from-as status (PeerFault session message) other is plain = is
 from-as status (Child n) other is plain = is
 from-as status NoMemory other is plain = is
 
@@ -42,6 +44,8 @@ finished-as status SomeRefused h = tt
 finished-as status ReadFault h = h
 finished-as status WriteFault h = h
 finished-as status SpawnFault h = h
+finished-as status LinkFault h = h
+finished-as status (PeerFault session message) h = h
 finished-as status (Child n) h = tt
 finished-as status NoMemory h = h
 
@@ -54,6 +58,8 @@ as-finished status SomeRefused h = tt
 as-finished status ReadFault h = h
 as-finished status WriteFault h = h
 as-finished status SpawnFault h = h
+as-finished status LinkFault h = h
+as-finished status (PeerFault session message) h = h
 as-finished status (Child n) h = tt
 as-finished status NoMemory h = h
 
@@ -66,6 +72,8 @@ as-short status SomeRefused h = tt
 as-short status ReadFault h = h
 as-short status WriteFault h = h
 as-short status SpawnFault h = h
+as-short status LinkFault h = h
+as-short status (PeerFault session message) h = h
 as-short status (Child n) h = tt
 as-short status NoMemory h = tt
 
@@ -100,6 +108,8 @@ unfinished-as status SomeRefused h = absurd (h tt)
 unfinished-as status ReadFault h = refl
 unfinished-as status WriteFault h = refl
 unfinished-as status SpawnFault h = refl
+unfinished-as status LinkFault h = refl
+unfinished-as status (PeerFault session message) h = refl
 unfinished-as status (Child n) h = refl
 unfinished-as status NoMemory h = refl
 

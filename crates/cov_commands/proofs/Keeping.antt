@@ -12,7 +12,9 @@ use Rattle.json_shapes.specs.Shapes.{or_fault, parsed, ◌>>=◌}
 use Rattle.cov_model.specs.Reading.{reading}
 use Rattle.cov_model.specs.Outcome.{accepted, answers, answer_to}
 use Rattle.cov_files.specs.Maps.{maps_reading}
-use Rattle.source_maps.specs.Entries.{Said, said, entries_of}
+use Rattle.source_maps.specs.Entries.{Said, entries_of}
+use Rattle.cov_report.specs.declared.kept.FirstEntries.{FirstEntries}
+use Rattle.cov_report.specs.First.{AreFirsts}
 use Rattle.cov_report.specs.Texts.{entries_if_taken, entries_of_taken, entries_or_none}
 use Rattle.cov_io.specs.Told.{Files, path_in}
 use Rattle.cov_book.specs.declared.book.Book.{Book}
@@ -33,8 +35,8 @@ kept-append Kept xs ys = refl
 kept-append Left xs ys = refl
 
 -- nothing is kept of a refused text
-pub none-kept : (maps : Maps) (entries : List Said) → entries ≡ entries ++ kept_if maps []
-none-kept maps entries = sym (append-nil entries) ∙ ap (λ more. entries ++ more) (kept-none maps)
+pub none-kept : (maps : Maps) (kept : FirstEntries) (all : List Said) → AreFirsts all kept → AreFirsts (all ++ kept_if maps []) kept
+none-kept maps kept all are = subst (λ (entries : List Said). AreFirsts entries kept) (sym (append-nil all) ∙ ap (λ more. all ++ more) (kept-none maps)) are
 
 entries-snoc : (texts : List (List ℕ)) (xs : List Answer) (t : List ℕ) (a : Answer) → length xs ≡ length texts
     → entries_of_taken (texts ++ t ∷ []) (xs ++ a ∷ []) ≡ entries_of_taken texts xs ++ entries_if_taken t a
@@ -62,13 +64,13 @@ entries-more files ps p =
 
 pub HasKept-skip : (maps : Maps) (folder : List ℕ) (files : Files) (names : List (List ℕ)) (name : List ℕ) (m : Merged)
     → is_json name ≡ false → HasKept maps folder files names m → HasKept maps folder files (names ++ name ∷ []) m
-HasKept-skip maps folder files names name m e h = subst (λ ps. map said m.entries.items ≡ kept_if maps (entries_at files ps)) (sym (paths-skip folder names name e)) h
+HasKept-skip maps folder files names name m e h = subst (λ ps. AreFirsts (kept_if maps (entries_at files ps)) m.entries) (sym (paths-skip folder names name e)) h
 
 pub HasKept-snoc : (maps : Maps) (folder : List ℕ) (files : Files) (names : List (List ℕ)) (name : List ℕ) (b : Book) (m n : Merged) (bytes : List ℕ)
     → is_json name ≡ true → HasTaken folder files names b m → HasKept maps folder files names m
     → reading bytes ≡ reading_at files (path_in folder name) → maps_reading bytes ≡ maps_reading (text_at files (path_in folder name))
-    → ((held : List Snapshot) → StandsFor b held
-    → map said n.entries.items ≡ map said m.entries.items ++ kept_if maps (entries_if_taken bytes (answer_to held (reading bytes))))
+    → ((held : List Snapshot) (all : List Said) → StandsFor b held → AreFirsts all m.entries
+    → AreFirsts (all ++ kept_if maps (entries_if_taken bytes (answer_to held (reading bytes)))) n.entries)
     → HasKept maps folder files (names ++ name ∷ []) n
 HasKept-snoc maps folder files names name b m n bytes e taken h read said_same entries =
     let ps = paths_of folder names in
@@ -76,11 +78,15 @@ HasKept-snoc maps folder files names name b m n bytes e taken h read said_same e
     let held = accepted (readings_of folder files names) in
     let more = entries-same bytes (text_at files path) (answer_to held (reading bytes)) said_same
     ∙ ap (λ r. entries_if_taken (text_at files path) (answer_to held r)) read in
-    entries held taken.book
-    ∙ ap₂ (λ (xs ys : List Said). xs ++ kept_if maps ys) h more
+    let all = kept_if maps (entries_at files ps) in
+    subst (λ (said : List Said). AreFirsts said n.entries)
+    (
+    ap (λ (found : List Said). all ++ kept_if maps found) more
     ∙ sym (kept-append maps (entries_at files ps) (entries_if_taken (text_at files path) (answer_to held (reading_at files path))))
     ∙ ap (kept_if maps) (sym (entries-more files ps path))
     ∙ ap (λ qs. kept_if maps (entries_at files qs)) (sym (paths-snoc folder names name e))
+    )
+    (entries held all taken.book h)
 
 -- ---- a text that is cut past its greatest size says of maps what the whole says
 

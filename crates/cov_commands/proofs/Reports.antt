@@ -7,25 +7,28 @@ use Rattle.cov_model.specs.Outcome.{Reading, accepted, answers}
 use Rattle.cov_io.specs.Told.{Files, names_in}
 use Rattle.cov_book.specs.declared.book.Book.{Book}
 use Rattle.cov_book.specs.Stands.{StandsFor}
-use Rattle.source_maps.specs.Entries.{Said, said}
+use Rattle.source_maps.specs.Entries.{Said}
 use Rattle.cov_report.specs.declared.answer.Report.{Report}
 use Rattle.cov_report.specs.Report as reports
+use Rattle.cov_report.specs.First.{AreFirsts, HaveSameFirsts}
+use Rattle.cov_report.proofs.Keeping.{firsts-enough}
 use Rattle.cov_report.specs.Texts.{entries_of_taken, report_of_texts, skip_lines}
 use Rattle.cov_commands.specs.declared.gather.Merged.{Merged}
 use Rattle.cov_commands.specs.declared.gather.Maps.TheVariants.{Kept}
-use Rattle.cov_commands.specs.Due.{text_at, text_paths, readings, report_in}
+use Rattle.cov_commands.specs.Due.{text_at, text_paths, readings, report_in, entries_at}
 use Rattle.cov_commands.specs.Gather.{HasTaken, HasKept}
 use Rattle.cov_commands.specs.Reporting.{TellsReport}
 
 -- it is that of the folder
-pub is-report-in : (folder : List ℕ) (files : Files) (b : Book) (m : Merged) (r : Report)
+pub is-report-in : (folder : List ℕ) (files : Files) (b : Book) (m : Merged) (given : List Said) (r : Report)
     → HasTaken folder files (names_in folder files) b m → HasKept Kept folder files (names_in folder files) m
-    → ((held : List Snapshot) → StandsFor b held → r ≡ reports.report held (map said m.entries.items) files) → r ≡ report_in folder files
+    → ((all : List Said) → AreFirsts all m.entries → HaveSameFirsts given all)
+    → ((held : List Snapshot) → StandsFor b held → r ≡ reports.report held given files) → r ≡ report_in folder files
 unfolding report_in report_of_texts
-is-report-in folder files b m r taken kept made =
+is-report-in folder files b m given r taken kept same made =
     let paths = text_paths folder files in
     made (accepted (readings folder files)) taken.book
-    ∙ ap (λ (entries : List Said). reports.report (accepted (readings folder files)) entries files) kept
+    ∙ firsts-enough (accepted (readings folder files)) given (entries_at files paths) files (same (entries_at files paths) kept)
     ∙ ap (λ (rs : List Reading). reports.report (accepted rs) (entries_of_taken (map (text_at files) paths) (answers rs)) files) (sym (map-map reading (text_at files) paths))
 
 -- and is told with its lines

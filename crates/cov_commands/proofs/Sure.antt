@@ -6,7 +6,7 @@ use Rattle.cov_io.specs.declared.memory.SureStore.{SureStore}
 use Rattle.cov_io.specs.declared.memory.SureSink.{SureSink}
 use Rattle.cov_words.specs.Asked.{command_of}
 use Rattle.cov_commands.specs.declared.ended.Ended.{Ended}
-use Rattle.cov_commands.specs.declared.ended.Ended.TheVariants.{Done, Different, Below, Usage, SomeRefused, ReadFault, WriteFault, SpawnFault, Child, NoMemory}
+use Rattle.cov_commands.specs.declared.ended.Ended.TheVariants.{Done, Different, Below, Usage, SomeRefused, ReadFault, WriteFault, SpawnFault, LinkFault, PeerFault, Child, NoMemory}
 use Rattle.cov_commands.specs.Ends.{IsFinished, IsFinishedOrShort}
 use Rattle.cov_commands.specs.Sinks.{SinkAt, sink_at}
 use Rattle.cov_commands.specs.Call.{Call, moment}
@@ -22,6 +22,8 @@ finished_or_short SomeRefused h = inr tt
 finished_or_short ReadFault h = absurd h
 finished_or_short WriteFault h = absurd h
 finished_or_short SpawnFault h = absurd h
+finished_or_short LinkFault h = absurd h
+finished_or_short (PeerFault session message) h = absurd h
 finished_or_short (Child status) h = inr tt
 finished_or_short NoMemory h = inl refl
 

@@ -12,7 +12,7 @@ use Rattle.cov_words.specs.declared.command.Command.{Command}
 use Rattle.cov_words.specs.declared.command.Command.TheVariants.{Merge, Same, Normal, Upgrade, Report, Check, Make}
 use Rattle.cov_commands.specs.declared.due.Due.{Due}
 use Rattle.cov_commands.specs.declared.ended.Ended.{Ended}
-use Rattle.cov_commands.specs.declared.ended.Ended.TheVariants.{Done, Different, Below, Usage, SomeRefused, ReadFault, WriteFault, SpawnFault, Child, NoMemory}
+use Rattle.cov_commands.specs.declared.ended.Ended.TheVariants.{Done, Different, Below, Usage, SomeRefused, ReadFault, WriteFault, SpawnFault, LinkFault, PeerFault, Child, NoMemory}
 use Rattle.cov_commands.specs.Deciding.{snapshot_in}
 use Rattle.cov_commands.specs.Due.{refused_or_done, same_answer, same_due, judged_due, file_answer, file_due, refused_due, readings, FolderIsMissing}
 use Rattle.cov_commands.specs.Ends.{IsFinished, IsFinishedOrShort}
@@ -119,6 +119,8 @@ finished-short SomeRefused h = tt
 finished-short ReadFault h = absurd h
 finished-short WriteFault h = absurd h
 finished-short SpawnFault h = absurd h
+finished-short LinkFault h = absurd h
+finished-short (PeerFault session message) h = absurd h
 finished-short (Child status) h = tt
 finished-short NoMemory h = absurd h
 

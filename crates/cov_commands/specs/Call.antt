@@ -4,7 +4,7 @@ use Rattle.cov_io.specs.Told.{WhereTold}
 use Rattle.json_pieces.specs.Pieces.{IsWithin, piece}
 use Rattle.cov_commands.specs.declared.ended.Ended.{Ended}
 use Rattle.cov_commands.specs.declared.ended.Ended.TheVariants.{Usage, WriteFault, ReadFault, NoMemory}
-use Rattle.cov_commands.specs.Ends.{IsFinished, IsFinishedOrShort, last_line}
+use Rattle.cov_commands.specs.Ends.{IsFinished, IsFinishedOrShort, fixed_line, last_line}
 use Rattle.cov_commands.specs.Owed.{Owed, Duty}
 use Rattle.cov_commands.specs.Sinks.{SinkAt, Gains, GainsPart, GainsLine, HasHanded, Fails, EndsAs, Puts}
 
@@ -35,8 +35,9 @@ pub record Ran {W O E : Type 0} (duty : Duty W) (before now : Moment W O E) (end
   pub out_prefix : GainsPart before.out now.out owed.out
   -- Whatever the answer, the error sink has got a prefix of the lines that were owed, and then the last line of the answer.
   pub err_prefix : (m : ℕ) × GainsLine before.err now.err (take m owed.err) (last_line ended)
-  -- The error sink was handed a piece that is no shorter than the last line: the line itself, where no earlier one was longer.
-  pub handed : HasHanded now.err.longest (last_line ended)
+  -- The error sink was handed a piece that is no shorter than the last line: the line itself, where no earlier one was longer. A
+  -- line that isn't a fixed text, that of a peer's fault, may be wanting for want of memory.
+  pub handed : HasHanded now.err.longest (fixed_line ended)
   -- Whatever the answer, the longest piece that the output was handed is at most the greater of 65,536 bytes and what it was.
   pub within : IsWithin piece before.out.longest now.out.longest
   -- The output is whole before the error sink gets anything but the last line.
@@ -71,7 +72,7 @@ pub record Unasked {W O E : Type 0} (before now : Moment W O E) (ended : Ended) 
   pub world : now.world ≡ before.world
   pub out : now.out ≡ before.out
   pub err : GainsLine before.err now.err [] (last_line ended)
-  pub handed : HasHanded now.err.longest (last_line ended)
+  pub handed : HasHanded now.err.longest (fixed_line ended)
   pub later : before.err.faults ≤ now.err.faults
 
 -- The whole of a call: the command that the words ask for was run, or they ask for none.

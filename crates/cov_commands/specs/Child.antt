@@ -4,7 +4,7 @@ use Rattle.cov_io.specs.Causes.{Rose}
 use Rattle.cov_io.specs.Lists.{ending_with}
 use Rattle.cov_words.specs.declared.command.Run.{Run}
 use Rattle.cov_commands.specs.declared.ended.Ended.{Ended}
-use Rattle.cov_commands.specs.declared.ended.Ended.TheVariants.{Done, Different, Below, Usage, SomeRefused, ReadFault, WriteFault, SpawnFault, Child, NoMemory}
+use Rattle.cov_commands.specs.declared.ended.Ended.TheVariants.{Done, Different, Below, Usage, SomeRefused, ReadFault, WriteFault, SpawnFault, LinkFault, PeerFault, Child, NoMemory}
 use Rattle.cov_commands.specs.Due.{FolderIsMissing}
 use Rattle.cov_commands.specs.Owed.{Owed, Duty, early}
 use Rattle.cov_commands.specs.Stores.{StoreAt}
@@ -61,6 +61,8 @@ ended_as status SomeRefused = Child status
 ended_as status ReadFault = ReadFault
 ended_as status WriteFault = WriteFault
 ended_as status SpawnFault = SpawnFault
+ended_as status LinkFault = LinkFault
+ended_as status (PeerFault session message) = PeerFault session message
 ended_as status (Child n) = Child n
 ended_as status NoMemory = NoMemory
 

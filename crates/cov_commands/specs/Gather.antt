@@ -1,11 +1,12 @@
 -- How far a folder's texts have been taken.
-use Rattle.std.specs.Prelude.{◌≡◌, ℕ, List, [], map}
+use Rattle.std.specs.Prelude.{◌≡◌, ℕ, List, []}
 use Rattle.std.specs.List.{list_any}
 use Rattle.cov_model.specs.Outcome.{accepted, answers}
 use Rattle.cov_io.specs.Told.{Files}
 use Rattle.cov_book.specs.declared.book.Book.{Book}
 use Rattle.cov_book.specs.Stands.{StandsFor}
-use Rattle.source_maps.specs.Entries.{Said, said}
+use Rattle.source_maps.specs.Entries.{Said}
+use Rattle.cov_report.specs.First.{AreFirsts}
 use Rattle.cov_commands.specs.declared.gather.Merged.{Merged}
 use Rattle.cov_commands.specs.declared.gather.Maps.{Maps}
 use Rattle.cov_commands.specs.declared.gather.Maps.TheVariants.{Kept, Left}
@@ -23,6 +24,6 @@ abbrev pub kept_if : Maps → List Said → List Said
 kept_if Kept entries = entries
 kept_if Left entries = []
 
--- Of the accepted texts among these names the map entries are kept, or none.
+-- Of the map entries of the accepted texts among these names the first of each url is kept, or none.
 abbrev pub HasKept : Maps → List ℕ → Files → List (List ℕ) → Merged → Type 0
-HasKept maps folder files names m = map said m.entries.items ≡ kept_if maps (entries_at files (paths_of folder names))
+HasKept maps folder files names m = AreFirsts (kept_if maps (entries_at files (paths_of folder names))) m.entries

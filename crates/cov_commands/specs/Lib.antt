@@ -16,4 +16,3 @@ pub mod Tool
 pub mod Child
 pub mod Collect
 pub mod Gathering
-pub mod Top

@@ -2,9 +2,10 @@
 use Rattle.std.specs.Prelude.{ℕ, List, [], Result, IfOk, IfErr}
 use Rattle.serde_json.specs.Written.{compact_text}
 use Rattle.cov_model.specs.File.{result_data}
+use Rattle.istanbul_json.specs.Value.{files_text}
 use Rattle.cov_commands.specs.declared.due.Due.{Due}
 use Rattle.cov_commands.specs.declared.due.Output.{Output}
-use Rattle.cov_commands.specs.declared.due.Output.TheVariants.{Bytes, Scripts}
+use Rattle.cov_commands.specs.declared.due.Output.TheVariants.{Bytes, Scripts, Coverage}
 use Rattle.cov_commands.specs.declared.ended.Ended.{Ended}
 use Rattle.cov_commands.specs.Ends.{IsFinished}
 
@@ -22,6 +23,7 @@ early ended = record { out = []; err = []; ended = ended }
 abbrev pub text_of : Output → List ℕ
 text_of (Bytes bytes) = bytes
 text_of (Scripts scripts) = compact_text (result_data scripts)
+text_of (Coverage files) = files_text files
 
 abbrev pub owed_of : Due → Owed
 owed_of due = record { out = text_of due.out; err = due.err; ended = due.ended }

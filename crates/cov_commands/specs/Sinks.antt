@@ -7,7 +7,7 @@ use Rattle.cov_io.specs.Told.{WhereTold}
 use Rattle.json_pieces.specs.Pieces.{IsWithin, piece}
 use Rattle.cov_commands.specs.declared.ended.Ended.{Ended}
 use Rattle.cov_commands.specs.declared.ended.Ended.TheVariants.{WriteFault, NoMemory}
-use Rattle.cov_commands.specs.Ends.{IsFinished}
+use Rattle.cov_commands.specs.Ends.{IsFinished, fixed_line, last_line}
 use Rattle.cov_commands.specs.Owed.{Owed}
 
 -- a sink at a moment: the sink itself, the bytes and the longest length of a piece that it tells, and its count of faults
@@ -66,8 +66,8 @@ pub record Puts {O E : Type 0} (owed : Owed) (out_before out_now : SinkAt O)
   pub within : IsWithin piece out_before.longest out_now.longest
 
 -- The last line alone is put out, or the sink is not called where there is none.
-pub record LastLine {S : Type 0} (before now : SinkAt S) (line : List ℕ) : Type 0 where
-  pub gains : GainsLine before now [] line
-  pub handed : HasHanded now.longest line
-  pub none : line ≡ [] → now ≡ before
+pub record LastLine {S : Type 0} (before now : SinkAt S) (ended : Ended) : Type 0 where
+  pub gains : GainsLine before now [] (last_line ended)
+  pub handed : HasHanded now.longest (fixed_line ended)
+  pub none : last_line ended ≡ [] → now ≡ before
   pub later : before.faults ≤ now.faults

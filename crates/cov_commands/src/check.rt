@@ -1,5 +1,5 @@
 //! The command `check FOLDER --lines N --branches N --functions N`.
-ghost use Rattle.std.specs.Prelude.{◌≡◌, ◌≤◌, ◌⊎◌, IfOk, IfErr, OnOk};
+ghost use Rattle.std.specs.Prelude.{◌≡◌, ◌⊎◌, IfOk, IfErr, OnOk};
 ghost use Rattle.cov_io.specs.Causes.{Rose};
 ghost use Rattle.cov_io.specs.Told.{WhereTold, FolderIsThere};
 ghost use Rattle.cov_table.specs.Shares as shares;
@@ -16,6 +16,7 @@ use crate::ended::refused_or_done;
 use crate::reporting::report_folder;
 use cov_io::Store;
 use cov_model::Items;
+use cov_percent::Percent;
 use cov_table::{check_text, misses, summary_of};
 use istanbul_json::FileCoverage;
 use std::alloc::{AllocError, Global};
@@ -26,13 +27,10 @@ pub fn check<S: Store>(
     alloc: Global,
     store: &mut S,
     folder: &str,
-    lines: u64,
-    branches: u64,
-    functions: u64,
+    lines: Percent,
+    branches: Percent,
+    functions: Percent,
 ) -> Result<Due, Ended>
-    requires lines { lines ≤ 100 }
-    requires branches { branches ≤ 100 }
-    requires functions { functions ≤ 100 }
     ensures { Gives (reading_duty (check_reader lines branches functions folder.now))
         (store_at store.old (S.files store.old) (S.folders store.old) (S.faults store.old))
         (store_at store.new (S.files store.new) (S.folders store.new) (S.faults store.new)) result }
@@ -67,13 +65,10 @@ struct Missed {
 fn missed_in(
     alloc: Global,
     files: &[FileCoverage],
-    lines: u64,
-    branches: u64,
-    functions: u64,
+    lines: Percent,
+    branches: Percent,
+    functions: Percent,
 ) -> Result<Missed, AllocError>
-    requires lines { lines ≤ 100 }
-    requires branches { branches ≤ 100 }
-    requires functions { functions ≤ 100 }
     ensures any { IfOk result (λ missed. missed.any ≡ shares.misses (shares.summary files.now) lines branches functions) }
     ensures text { IfOk result (λ missed. missed.text.items ≡ shares.check_text (shares.summary files.now) lines branches functions) }
 {

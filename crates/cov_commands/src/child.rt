@@ -45,7 +45,7 @@ pub fn run_child<S: Store, P: Spawner, O: Sink, E: Sink>(
         result }
 {
     let ended = ask(alloc, words, store, spawner, out, err);
-    let _ = tell_end(err, ended);
+    let _ = tell_end(alloc, err, ended);
     ended
 }
 

@@ -8,6 +8,7 @@ ghost use Rattle.cov_commands.specs.Owed.{text_of};
 use crate::Ended;
 use cov_book::Book;
 use cov_model::{Items, Snapshot};
+use coverage_text::CoverageFiles;
 use std::alloc::{AllocError, Global};
 
 /// What a command owes the output.
@@ -17,6 +18,8 @@ pub enum Output {
     Bytes(Items<u8>),
     /// The JSON text of these scripts, which is written straight from them.
     Scripts(Snapshot),
+    /// The JSON text of these coverage files, which is written straight from them.
+    Coverage(CoverageFiles),
 }
 
 /// What a command owes: what goes to the output, the lines for the error sink, and how it then ends.

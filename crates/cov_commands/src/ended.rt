@@ -25,6 +25,10 @@ pub enum Ended {
     WriteFault,
     /// The program wasn't run to its end.
     SpawnFault,
+    /// The net failed, or a link did, or it closed before its session's end.
+    LinkFault,
+    /// The peer of this session, from 0, sent a text that its session refuses: the one of this number, from 0.
+    PeerFault { session: u64, message: u64 },
     /// The command came to its end, and the program that it ran ended with this status, which isn't 0.
     Child(u8),
     /// There was no memory.
@@ -45,6 +49,8 @@ impl Ended {
             Ended::ReadFault => 4,
             Ended::WriteFault => 5,
             Ended::NoMemory => 6,
+            Ended::LinkFault => 7,
+            Ended::PeerFault { .. } => 8,
             Ended::SpawnFault => 9,
             Ended::Child(status) => *status,
         }

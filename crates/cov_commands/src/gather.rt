@@ -9,7 +9,8 @@ ghost use Rattle.cov_commands.specs.Ends.{IsEndedBy};
 ghost use Rattle.cov_model.specs.declared.snapshot.Snapshot.{Snapshot};
 ghost use Rattle.cov_model.specs.Gives.{TextFails};
 ghost use Rattle.cov_files.specs.Maps.{maps_reading};
-ghost use Rattle.source_maps.specs.Entries.{said};
+ghost use Rattle.source_maps.specs.Entries.{Said, said};
+ghost use Rattle.cov_report.specs.First.{AreFirsts};
 ghost use Rattle.cov_report.specs.Texts.{entries_if_taken, entries_or_none};
 ghost use Rattle.cov_model.specs.Outcome.{after, answer_to};
 ghost use Rattle.cov_model.specs.Reading.{reading};
@@ -24,6 +25,7 @@ use cov_book::{AddFault, Book, Steps};
 use cov_files::{read_snapshot, read_text};
 use cov_io::{Store, StoreFault};
 use cov_model::{Answer, Items, Snapshot, TextFault};
+use cov_report::FirstEntries;
 use source_maps::MapEntry;
 use std::alloc::{AllocError, Global};
 use std::marker::Brand;
@@ -48,8 +50,8 @@ pub struct Merged {
     pub lines: Items<u8>,
     /// Whether a text was refused.
     pub refused: bool,
-    /// The map entries of the accepted texts, in order, where they are kept.
-    pub entries: Vec<MapEntry>,
+    /// The first map entry of each url of the accepted texts, where they are kept.
+    pub entries: FirstEntries,
 }
 
 /// Takes each text of a folder, in byte order of their names.
@@ -81,7 +83,7 @@ pub fn gather<S: Store>(
     let mut merged = Merged {
         lines: Items::new(alloc),
         refused: false,
-        entries: Vec::new(alloc),
+        entries: FirstEntries::new(alloc),
     };
     for name in names.as_slice() {
         if let Err(ended) = take_name(
@@ -151,12 +153,14 @@ fn take_name<S: Store>(
     }
 }
 
+/// Whether a file of this name is a text.
 pub fn is_json(name: &str) -> bool
     ensures { result ≡ due.is_json name.now }
 {
     name.as_bytes().ends_with(b".json")
 }
 
+/// The path of a file of a folder.
 pub fn path_of(alloc: Global, folder: &str, name: &str) -> Result<String, AllocError>
     ensures { IfOk result (λ path. string_bytes path ≡ path_in folder.now name.now) }
 {
@@ -178,9 +182,9 @@ fn take_text(
         → merged.new.lines ≡ merged.old.lines ++ lines.answer_line path.now (answer_to held (reading bytes.now))) }
     ensures refused { OnOk result ((held : List Snapshot) → StandsFor book.old held
         → merged.new.refused ≡ (merged.old.refused || is_refusal (answer_to held (reading bytes.now)))) }
-    ensures entries { OnOk result ((held : List Snapshot) → StandsFor book.old held
-        → map said merged.new.entries.items ≡ map said merged.old.entries.items
-        ++ kept_if maps (entries_if_taken bytes.now (answer_to held (reading bytes.now)))) }
+    ensures entries { OnOk result ((held : List Snapshot) (all : List Said) → StandsFor book.old held
+        → AreFirsts all merged.old.entries
+        → AreFirsts (all ++ kept_if maps (entries_if_taken bytes.now (answer_to held (reading bytes.now)))) merged.new.entries) }
 {
     let answer = answer_of(alloc, book, &mut merged.entries, bytes, maps)?;
     let line = answer_line(alloc, path, &answer)?;
@@ -192,7 +196,7 @@ fn take_text(
 fn answer_of(
     alloc: Global,
     book: &mut Book,
-    entries: &mut Vec<MapEntry>,
+    entries: &mut FirstEntries,
     bytes: &[u8],
     maps: Maps,
 ) -> Result<Answer, AllocError>
@@ -200,13 +204,13 @@ fn answer_of(
         → StandsFor book.new (after held (reading bytes.now))) }
     ensures answer { IfOk result (λ answer. (held : List Snapshot) → StandsFor book.old held
         → answer ≡ answer_to held (reading bytes.now)) }
-    ensures entries { IfOk result (λ answer. map said entries.new.items ≡ map said entries.old.items
-        ++ kept_if maps (entries_if_taken bytes.now answer)) }
+    ensures entries { IfOk result (λ answer. (all : List Said) → AreFirsts all entries.old
+        → AreFirsts (all ++ kept_if maps (entries_if_taken bytes.now answer)) entries.new) }
 {
     match read_for(alloc, bytes, maps) {
         Ok((snapshot, found)) => match add(book, &snapshot)? {
             Answer::Taken => {
-                keep(entries, found)?;
+                entries.keep(found)?;
                 Ok(Answer::Taken)
             }
             Answer::Past(fault) => Ok(Answer::Past(fault)),
@@ -236,15 +240,8 @@ fn read_for(
     }
 }
 
-fn keep(entries: &mut Vec<MapEntry>, found: Items<MapEntry>) -> Result<(), AllocError>
-    ensures { OnOk result (map said entries.new.items ≡ map said entries.old.items ++ map said found) }
-{
-    let mut more = found.into_vec();
-    entries.append(&mut more)
-}
-
-/// Adds a snapshot to the book, or refuses it for a sum past the limit, and answers which.
-fn add(book: &mut Book, snapshot: &Snapshot) -> Result<Answer, AllocError>
+/// Adds a snapshot to the book, or refuses it for a sum past the limit, and answers which. An `AllocError` comes only for want of memory.
+pub fn add(book: &mut Book, snapshot: &Snapshot) -> Result<Answer, AllocError>
     ensures book { OnOk result ((held : List Snapshot) → StandsFor book.old held
         → StandsFor book.new (after held (Ok snapshot.now))) }
     ensures answer { IfOk result (λ answer. (held : List Snapshot) → StandsFor book.old held

@@ -18,12 +18,18 @@ mod report;
 mod reporting;
 mod same;
 mod tool;
-mod top;
 mod upgrade;
 mod workers;
 
 pub use child::run_child;
 pub use ended::Ended;
 pub use tool::{run_sure, run_tool};
-pub use top::run;
 pub use workers::run_collect;
+
+// What the calls of the crates above are made of as well.
+pub use due::{Due, Output, file_of};
+pub use ended::refused_or_done;
+pub use gather::{MOST, add, ended_by, is_json, path_of};
+pub use lines::answer_line;
+pub use put::{put_bytes, put_due, put_output};
+pub use tool::tell_end;

@@ -11,12 +11,13 @@ ghost use Rattle.cov_commands.specs.Ends.{HasWriteCause, IsFinished};
 use crate::Ended;
 use crate::due::{Due, Output};
 use cov_io::{Sink, SinkFault};
+use coverage_text::write_files;
 use json_pieces::finish;
 use scripts_text::write_scripts;
 use std::alloc::Global;
 
 /// Writes bytes, or says how that ends the command.
-pub fn put<O: Sink>(out: &mut O, bytes: &[u8]) -> Result<(), Ended>
+pub fn put_bytes<O: Sink>(out: &mut O, bytes: &[u8]) -> Result<(), Ended>
     ensures ok { OnOk result (Appends (O.held out.old) (O.held out.new) bytes.now) }
     ensures part { AppendsPart (O.held out.old) (O.held out.new) bytes.now }
     ensures line { GainsLine
@@ -42,11 +43,12 @@ fn write_output<O: Sink>(alloc: Global, out: &mut O, output: &Output) -> Result<
     match output {
         Output::Bytes(bytes) => finish(out, bytes.as_slice()),
         Output::Scripts(scripts) => write_scripts(alloc, scripts.scripts(), out),
+        Output::Coverage(files) => write_files(alloc, files, out),
     }
 }
 
-/// The same, or says how that ends the command.
-fn put_output<O: Sink>(alloc: Global, out: &mut O, output: &Output) -> Result<(), Ended>
+/// Writes what is due for the output in pieces of at most 65,536 bytes, or says how that ends the command.
+pub fn put_output<O: Sink>(alloc: Global, out: &mut O, output: &Output) -> Result<(), Ended>
     ensures ok { OnOk result (Appends (O.held out.old) (O.held out.new) (text_of output.now)) }
     ensures part { AppendsPart (O.held out.old) (O.held out.new) (text_of output.now) }
     ensures within { IsWithin piece (O.longest out.old) (O.longest out.new) }
@@ -72,7 +74,7 @@ pub fn put_due<O: Sink, E: Sink>(alloc: Global, out: &mut O, err: &mut E, due: &
     if let Err(ended) = put_output(alloc, out, &due.out) {
         return ended;
     }
-    if let Err(ended) = put(err, due.err.as_slice()) {
+    if let Err(ended) = put_bytes(err, due.err.as_slice()) {
         return ended;
     }
     due.ended

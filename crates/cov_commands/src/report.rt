@@ -6,19 +6,20 @@ ghost use Rattle.istanbul_json.specs.Gives.{ArePathsInOrder};
 ghost use Rattle.cov_commands.specs.Counting.{CountsSkips};
 ghost use Rattle.cov_commands.specs.Due.{report_due, text_in, FolderIsMissing};
 ghost use Rattle.cov_commands.specs.Ends.{IsFinished};
-ghost use Rattle.cov_commands.specs.Owed.{Gives};
+ghost use Rattle.cov_commands.specs.Owed.{Gives, text_of};
 ghost use Rattle.cov_commands.specs.Stores.{store_at};
 ghost use Rattle.cov_commands.specs.Tool.{report_reader, reading_duty};
 
 use crate::Ended;
 use crate::due::{Due, Output};
 use crate::ended::refused_or_done;
-use crate::reporting::report_folder;
+use crate::reporting::{Reported, report_folder};
 use cov_io::Store;
 use cov_model::Items;
 use cov_table::table_text;
 use cov_words::Form;
-use istanbul_json::{FileCoverage, text_of};
+use coverage_text::CoverageFiles;
+use istanbul_json::FileCoverage;
 use lcov_text::lcov_of;
 use std::alloc::{AllocError, Global};
 
@@ -38,25 +39,29 @@ pub fn report<S: Store>(
         Ok(found) => found,
         Err(ended) => return Err(ended),
     };
-    let Ok(text) = text_as(alloc, form, found.report.files.as_slice()) else {
+    let Reported {
+        report,
+        lines,
+        refused,
+    } = found;
+    let Ok(out) = output_as(alloc, form, report.files) else {
         return Err(Ended::NoMemory);
     };
-    let ended = refused_or_done(found.refused);
     Ok(Due {
-        out: Output::Bytes(Items::from_vec(text)),
-        err: found.lines,
-        ended,
+        out,
+        err: lines,
+        ended: refused_or_done(refused),
     })
 }
 
-/// The text of files in a form.
-fn text_as(alloc: Global, form: Form, files: &[FileCoverage]) -> Result<Vec<u8>, AllocError>
-    requires { ArePathsInOrder files.now }
-    ensures { IfOk result (λ text. text.items ≡ text_in form files.now) }
+/// What files owe the output in a form.
+fn output_as(alloc: Global, form: Form, files: Items<FileCoverage>) -> Result<Output, AllocError>
+    requires { ArePathsInOrder files }
+    ensures { IfOk result (λ output. text_of output ≡ text_in form files) }
 {
     match form {
-        Form::Json => text_of(alloc, files),
-        Form::Lcov => lcov_of(alloc, files),
-        Form::Text => table_text(alloc, files),
+        Form::Json => Ok(Output::Coverage(CoverageFiles::new(files))),
+        Form::Lcov => Ok(Output::Bytes(Items::from_vec(lcov_of(alloc, files.as_slice())?))),
+        Form::Text => Ok(Output::Bytes(Items::from_vec(table_text(alloc, files.as_slice())?))),
     }
 }

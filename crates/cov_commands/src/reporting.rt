@@ -9,7 +9,7 @@ ghost use Rattle.cov_commands.specs.Counting.{CountsSkips};
 ghost use Rattle.cov_commands.specs.Reporting.{TellsReport};
 
 use crate::Ended;
-use crate::gather::{Maps, gather};
+use crate::gather::{Maps, Merged, gather};
 use cov_book::Book;
 use cov_io::Store;
 use cov_model::Items;
@@ -49,16 +49,24 @@ pub fn report_folder<S: Store>(
         Ok(merged) => merged,
         Err(ended) => return Err(ended),
     };
-    let report = match report_of(alloc, &book, merged.entries.as_slice(), store) {
+    let Merged {
+        lines,
+        refused,
+        entries,
+    } = merged;
+    let Ok(entries) = entries.into_entries(alloc) else {
+        return Err(Ended::NoMemory);
+    };
+    let report = match report_of(alloc, &book, entries.as_slice(), store) {
         Ok(report) => report,
         Err(ReportFault::Failed) => return Err(Ended::ReadFault),
         Err(ReportFault::NoMemory) => return Err(Ended::NoMemory),
     };
-    match with_skips(alloc, merged.lines, report.skips.as_slice()) {
+    match with_skips(alloc, lines, report.skips.as_slice()) {
         Ok(lines) => Ok(Reported {
             report,
             lines,
-            refused: merged.refused,
+            refused,
         }),
         Err(_) => Err(Ended::NoMemory),
     }

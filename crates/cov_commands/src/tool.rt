@@ -1,12 +1,12 @@
 //! The commands that read folders and files.
-ghost use Rattle.std.specs.Prelude.{◌≡◌, ◌≤◌, [], map, string_bytes, OnOk};
-ghost use Rattle.cov_words.specs.Asked.{HasPercents, command_of};
+ghost use Rattle.std.specs.Prelude.{◌≡◌, ◌≤◌, [], map, string_bytes, IfOk, OnOk};
+ghost use Rattle.cov_words.specs.Asked.{command_of};
 ghost use Rattle.cov_commands.specs.Call.{Asks, Call, Runs, moment};
 ghost use Rattle.cov_commands.specs.Owed.{Gives};
 ghost use Rattle.cov_commands.specs.Sinks.{Gains, GainsLine, HasHanded, sink_at};
 ghost use Rattle.cov_commands.specs.Stores.{store_at};
 ghost use Rattle.cov_commands.specs.Sure.{GivesDue};
-ghost use Rattle.cov_commands.specs.Ends.{last_line};
+ghost use Rattle.cov_commands.specs.Ends.{fixed_line, last_line, made_line};
 ghost use Rattle.cov_commands.specs.Tool.{tool_duty};
 
 use crate::Ended;
@@ -15,13 +15,13 @@ use crate::due::Due;
 use crate::make::make;
 use crate::merge::merge;
 use crate::normal::normal;
-use crate::put::{put, put_due};
+use crate::put::{put_bytes, put_due};
 use crate::report::report;
 use crate::same::same;
 use crate::upgrade::upgrade;
 use cov_io::{Sink, Store, SureSink, SureStore};
 use cov_words::{Command, WordsFault, read_words};
-use std::alloc::Global;
+use std::alloc::{AllocError, Global};
 
 /// Runs the command that the words ask for:
 ///
@@ -56,7 +56,7 @@ pub fn run_tool<S: Store, O: Sink, E: Sink>(
         result }
 {
     let ended = ask(alloc, words, store, out, err);
-    let _ = tell_end(err, ended);
+    let _ = tell_end(alloc, err, ended);
     ended
 }
 
@@ -99,36 +99,62 @@ pub fn run_sure(
 }
 
 /// Writes the last line of a command that did not come to its end, or says why it isn't whole. That changes no answer.
-pub fn tell_end<E: Sink>(err: &mut E, ended: Ended) -> Result<(), Ended>
+/// `NoMemory` comes only where there is no memory for the line of a peer's fault, or where the sink wants it.
+pub fn tell_end<E: Sink>(alloc: Global, err: &mut E, ended: Ended) -> Result<(), Ended>
     ensures whole { OnOk result (Gains
         (sink_at err.old (E.held err.old) (E.longest err.old) (E.faults err.old)) (sink_at err.new (E.held err.new) (E.longest err.new) (E.faults err.new))
         (last_line ended)) }
     ensures gains { GainsLine
         (sink_at err.old (E.held err.old) (E.longest err.old) (E.faults err.old)) (sink_at err.new (E.held err.new) (E.longest err.new) (E.faults err.new))
         [] (last_line ended) }
-    ensures handed { HasHanded (E.longest err.new) (last_line ended) }
+    ensures handed { HasHanded (E.longest err.new) (fixed_line ended) }
     ensures nothing { last_line ended ≡ [] → err.new ≡ err.old }
     ensures later { E.faults err.old ≤ E.faults err.new }
 {
-    let line = line_of(ended);
+    let line = fixed_line(ended);
+    if !line.is_empty() {
+        return put_bytes(err, line.as_bytes());
+    }
+    let Ok(line) = made_line(alloc, ended) else {
+        return Err(Ended::NoMemory);
+    };
     if line.is_empty() {
         Ok(())
     } else {
-        put(err, line.as_bytes())
+        put_bytes(err, line.as_bytes())
     }
 }
 
-fn line_of(ended: Ended) -> &'static str
-    ensures { result.now ≡ last_line ended }
+/// The last line where it is a fixed text.
+fn fixed_line(ended: Ended) -> &'static str
+    ensures { result.now ≡ fixed_line ended }
 {
     match ended {
-        Ended::Done | Ended::Different | Ended::Below | Ended::SomeRefused | Ended::Child(_) => "",
+        Ended::Done
+        | Ended::Different
+        | Ended::Below
+        | Ended::SomeRefused
+        | Ended::PeerFault { .. }
+        | Ended::Child(_) => "",
         Ended::Usage =>
             "usage: merge same normal report check make collect serve attach run upgrade\n",
         Ended::ReadFault => "fault: read\n",
         Ended::WriteFault => "fault: write\n",
         Ended::SpawnFault => "fault: child\n",
+        Ended::LinkFault => "fault: link\n",
         Ended::NoMemory => "fault: memory\n",
+    }
+}
+
+/// The last line where it isn't one: that of a peer's fault.
+fn made_line(alloc: Global, ended: Ended) -> Result<String, AllocError>
+    ensures { IfOk result (λ line. string_bytes line ≡ made_line ended) }
+{
+    match ended {
+        Ended::PeerFault { session, message } => {
+            format!(in alloc; "fault: peer, session {session} message {message}\n")
+        }
+        _ => Ok(String::new(alloc)),
     }
 }
 
@@ -140,7 +166,6 @@ fn run<S: Store, O: Sink, E: Sink>(
     out: &mut O,
     err: &mut E,
 ) -> Ended
-    requires { HasPercents command.now }
     ensures { Runs (tool_duty command.now)
         (moment
         (store_at store.old (S.files store.old) (S.folders store.old) (S.faults store.old))
@@ -160,7 +185,6 @@ fn run<S: Store, O: Sink, E: Sink>(
 /// What the command owes, by what the store gives.
 #[tactic(auto, using(crate::proofs::Makes::gives_made_or_short))]
 fn look<S: Store>(alloc: Global, command: &Command, store: &mut S) -> Result<Due, Ended>
-    requires { HasPercents command.now }
     ensures { Gives (tool_duty command.now)
         (store_at store.old (S.files store.old) (S.folders store.old) (S.faults store.old))
         (store_at store.new (S.files store.new) (S.folders store.new) (S.faults store.new)) result }

@@ -44,7 +44,7 @@ pub fn run_collect<S: Store, G: Gate + Sync, O: Sink, E: Sink, R: Threads + Wait
         result }
 {
     let ended = ask(rt, alloc, words, store, gate, out, err);
-    let _ = tell_end(err, ended);
+    let _ = tell_end(alloc, err, ended);
     ended
 }
 

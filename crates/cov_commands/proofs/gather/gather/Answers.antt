@@ -1,11 +1,12 @@
-use Rattle.std.proofs.Common.{rules, ◌≡◌, ◌<◌, [], length, get_or, map, refl, sym, ap, ◌∙◌, subst, inl, inr}
+use Rattle.std.proofs.Common.{◌≡◌, ◌<◌, List, length, get_or, map, refl, sym, ap, ◌∙◌, subst, inl, inr}
 use Rattle.std.specs.Prelude.{string_bytes}
 use Rattle.cov_model.specs.Outcome.{accepted_over, answers_over}
 use Rattle.cov_io.specs.Causes.{Rose}
 use Rattle.cov_io.specs.Told.{path_in, names_in}
 use Rattle.cov_io.proofs.Names.{HasFile}
 use Rattle.cov_commands.proofs.Listed.{listed-HasFile}
-use Rattle.source_maps.specs.Entries.{said}
+use Rattle.source_maps.specs.Entries.{Said}
+use Rattle.cov_report.specs.First.{AreFirsts}
 use Rattle.cov_report.specs.Texts.{entries_of_taken}
 use Rattle.cov_commands.specs.Due.{paths_of}
 use Rattle.cov_commands.proofs.Keeping.{kept-none}
@@ -16,7 +17,7 @@ unfolding paths_of accepted_over answers_over entries_of_taken
 loop-name-init g c =
     record {
       taken = λ files is. record { book = c.requires; lines = c.new.ensures; refused = refl };
-      kept = λ files is. let none : c.new-2.result.items ≡ [] = search rules in ap (map said) none ∙ kept-none c.args.maps;
+      kept = λ files is. subst (λ (said : List Said). AreFirsts said c.new-2.result) (kept-none c.args.maps) c.new-2.ensures;
       faults = c.in-Ok.ensures.cause.kept;
       files = c.in-Ok.ensures.files;
       folders = c.in-Ok.ensures.folders;

@@ -15,7 +15,8 @@ returns-in-Ok-with_skips-clause-tells g c =
     λ files told.
     tells-report folder files c.gather.new.book c.in-Ok.merged c.in-Ok-report_of.report c.in-Ok-with_skips.lines (c.in-Ok.ensures.taken files told)
     (
-    is-report-in folder files c.gather.new.book c.in-Ok.merged c.in-Ok-report_of.report (c.in-Ok.ensures.taken files told) (c.in-Ok.ensures.entries files told)
+    is-report-in folder files c.gather.new.book c.in-Ok.merged (map said c.in-Ok-into_entries.entries.items) c.in-Ok-report_of.report (c.in-Ok.ensures.taken files told)
+    (c.in-Ok.ensures.entries files told) c.in-Ok-into_entries.ensures
     (λ held stands.
     c.in-Ok-report_of.ensures.report held stands files (c.in-Ok.ensures.still.files ∙ told)
     ∙ ap (λ (entries : List MapEntry). reports.report held (map said entries) files) c.as_slice.ensures.value)
@@ -32,7 +33,8 @@ returns-in-Ok-with_skips-clause-counts g c =
       given = λ files told.
           ap (λ (r : Report). r.skips)
           (
-          is-report-in folder files c.gather.new.book c.in-Ok.merged c.in-Ok-report_of.report (c.in-Ok.ensures.taken files told) (c.in-Ok.ensures.entries files told)
+          is-report-in folder files c.gather.new.book c.in-Ok.merged (map said c.in-Ok-into_entries.entries.items) c.in-Ok-report_of.report (c.in-Ok.ensures.taken files told)
+          (c.in-Ok.ensures.entries files told) c.in-Ok-into_entries.ensures
           (λ held stands.
           c.in-Ok-report_of.ensures.report held stands files (c.in-Ok.ensures.still.files ∙ told)
           ∙ ap (λ (entries : List MapEntry). reports.report held (map said entries) files) c.as_slice.ensures.value)
