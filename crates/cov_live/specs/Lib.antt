@@ -1,0 +1,4 @@
+pub mod Attaching
+pub mod Adding
+pub mod Commands
+pub mod Top

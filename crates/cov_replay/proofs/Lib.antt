@@ -1,0 +1,4 @@
+pub mod Taping
+pub mod Behind
+pub mod Lawful
+pub mod Played
