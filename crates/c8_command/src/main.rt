@@ -1,8 +1,10 @@
-//! The command `c8_command`: the real folder and streams, handed to the commands of `cov_commands`.
+//! The command `c8_command`: the real folder, streams and net, handed to the commands.
 #![tactic(auto)]
 
-use cov_commands::{Ended, run};
+use cov_commands::Ended;
 use cov_io::{ChildSpawner, FolderStore, NoGate, Sink, StreamSink};
+use cov_live::run;
+use cov_net::TcpNet;
 use std::io::ErrorKind;
 use std::process::ExitCode;
 use std::rt::Runtime;
@@ -20,6 +22,7 @@ fn main(rt: HostRuntime) -> ExitCode {
         Err(_) => Vec::new(rt.alloc()),
     };
     let mut store = FolderStore::new(rt);
+    let mut net = TcpNet::new(rt);
     let mut spawner = ChildSpawner::new(rt);
     let mut out = StreamSink::new(rt.stdout());
     let ended = run(
@@ -28,6 +31,7 @@ fn main(rt: HostRuntime) -> ExitCode {
         words.as_slice(),
         &mut store,
         &NoGate,
+        &mut net,
         &mut spawner,
         &mut out,
         &mut err,

@@ -7,16 +7,20 @@
 //!   `== FOLDER/` is a folder alone. A file is there for all later runs of its case.
 //!   `== PATH in hex` is a file of the bytes whose hex digits follow, with a space between two, and
 //!   `== PATH times N` is N files of this text, whose paths have the numbers from 0 for the `*`.
-//! - `! store N`, `! out N` and `! err N`, before a run: call N of that object, from 0, fails.
+//! - `@ link` begins a link that the net of the next run will make, in the order of these. Each line behind it is a text that comes over
+//!   it, up to the next line that begins `== `, `@ link`, `! ` or `$`; `N times TEXT` is N of this text. `@ link N M` is one whose calls
+//!   N and M fail.
+//! - `! store N`, `! net N`, `! out N` and `! err N`, before a run: call N of that object, from 0, fails.
 //! - `! spawner N`: so does that of the spawner. `! program N`: the program that the run starts ends with this status, else with 0.
 //! - `$ WORDS` is a run. Words stand apart by one space; `''` is the empty word.
-//! - Below it, where a program was run, stands `-- ran` with its words, one a line. Where something was
+//! - Below it, where a program was run, stands `-- ran` with its words, one a line; `-- dialled` with each place that was dialled; and
+//!   for each link that was handed back `-- sent` with the texts that were sent, one a line. Where something was
 //!   written, stand `-- out` and `-- err`, each with what was, and then
 //!   `= STATUS ANSWER, N calls`, with the number of calls of the store.
 //! - Notes begin with `#`. They and empty lines stand before a file, a `!` or a run.
 //!
 //! Where what comes is another text than the case, that whole text is written, the first line that
-//! differs goes to the error stream, and the status is 1. No line of a text may begin `== `, `! `, `$`
+//! differs goes to the error stream, and the status is 1. No line of a text may begin `== `, `@ link`, `! `, `$`
 //! or `= `.
 #![tactic(auto)]
 

@@ -1,6 +1,8 @@
 //! A case as it is played: its files, the calls that are to fail, and what came so far.
-use cov_commands::run;
-use cov_io::{Failing, MemFile, MemSink, MemSpawner, MemStore, NoGate, SureStore};
+use cov_io::{
+    Failing, MemFile, MemNet, MemSink, MemSpawner, MemStore, NoGate, Prepared, SureStore,
+};
+use cov_live::run;
 use cov_text::{Items, Text};
 use std::alloc::{AllocError, Global};
 use std::sync::Wait;
@@ -13,6 +15,8 @@ enum Place {
     Between,
     /// In the text of a file.
     Text,
+    /// In the texts that come over a link.
+    Link,
     /// In what a run is to give.
     Wanted,
 }
@@ -22,6 +26,7 @@ enum Place {
 struct Stage {
     alloc: Global,
     store: MemStore,
+    net: MemNet,
     spawner: MemSpawner,
     out: MemSink,
     err: MemSink,
@@ -49,6 +54,7 @@ pub(crate) fn played<R: Threads + Wait + Sync>(
             },
             Items::new(alloc),
         ),
+        net: MemNet::new(alloc, Vec::new(alloc), Items::new(alloc)),
         spawner: MemSpawner::new(alloc, 0, Items::new(alloc)),
         out: MemSink::new(alloc, Items::new(alloc)),
         err: MemSink::new(alloc, Items::new(alloc)),
@@ -72,6 +78,11 @@ impl Stage {
             self.put(line)?;
             self.path = String::from_str(self.alloc, path)?;
             self.place = Place::Text;
+        } else if let Some(calls) = line.strip_prefix("@ link") {
+            self.end_text()?;
+            self.put(line)?;
+            self.put_link(calls)?;
+            self.place = Place::Link;
         } else if let Some(call) = line.strip_prefix("! ") {
             self.end_text()?;
             self.put(line)?;
@@ -96,6 +107,10 @@ impl Stage {
             Place::Text if !is_end => {
                 self.text.push_str(line)?;
                 self.text.push_str("\n")?;
+                self.put(line)?;
+            }
+            Place::Link if !is_end => {
+                self.put_come(line)?;
                 self.put(line)?;
             }
             Place::Wanted if is_end => self.place = Place::Between,
@@ -134,6 +149,36 @@ impl Stage {
         add_file(self.alloc, &mut self.store.inner, file)
     }
 
+    // Lets the net of the next run have one link more, over which nothing comes so far, and of which these calls fail.
+    fn put_link(&mut self, calls: &str) -> Result<(), AllocError> {
+        let mut failing = Items::new(self.alloc);
+        for call in calls.split(' ') {
+            if let Ok(number) = call.parse::<u64>() {
+                failing.push(number)?;
+            }
+        }
+        let link = Prepared {
+            texts: Items::new(self.alloc),
+            failing,
+        };
+        let _ = self.net.coming.push(link);
+        Ok(())
+    }
+
+    // Lets a text come over the last link of the net, or one so many times.
+    fn put_come(&mut self, line: &str) -> Result<(), AllocError> {
+        let (times, text) = match line.split_once(" times ") {
+            Some((times, text)) => (times.parse::<u32>().unwrap_or(0), text),
+            None => (1, line),
+        };
+        if let Some(link) = self.net.coming.last_mut() {
+            for _ in 0..times {
+                link.texts.push(Text::from_text(self.alloc, text)?)?;
+            }
+        }
+        Ok(())
+    }
+
     // Lets a call of the next run fail, or its program end with a status.
     fn let_be(&mut self, call: &str) -> Result<(), AllocError> {
         if let Some((object, number)) = call.split_once(' ')
@@ -141,6 +186,7 @@ impl Stage {
         {
             match object {
                 "program" => self.spawner.inner.status = (number % 256) as u8,
+                "net" => self.net.failing.numbers.push(number)?,
                 "spawner" => self.spawner.failing.numbers.push(number)?,
                 "store" => self.store.failing.numbers.push(number)?,
                 "out" => self.out.failing.numbers.push(number)?,
@@ -160,16 +206,19 @@ impl Stage {
             words.as_slice(),
             &mut self.store,
             &NoGate,
+            &mut self.net,
             &mut self.spawner,
             &mut self.out,
             &mut self.err,
         );
         self.put_ran()?;
+        self.put_linked()?;
         put_part(&mut self.given, "-- out", &self.out)?;
         put_part(&mut self.given, "-- err", &self.err)?;
         let (code, calls) = (ended.code(), self.store.failing.calls);
         let line = format!(in self.alloc; "= {code} {ended:?}, {calls} calls")?;
         self.put(line.as_str())?;
+        self.net = MemNet::new(self.alloc, Vec::new(self.alloc), Items::new(self.alloc));
         self.spawner = MemSpawner::new(self.alloc, 0, Items::new(self.alloc));
         self.store.failing = Failing::new(Items::new(self.alloc));
         self.out = MemSink::new(self.alloc, Items::new(self.alloc));
@@ -183,6 +232,21 @@ impl Stage {
             put_line(&mut self.given, "-- ran")?;
             for word in words.as_slice() {
                 put_line(&mut self.given, word.as_text())?;
+            }
+        }
+        Ok(())
+    }
+
+    // Puts the places that were dialled, and of each link that was handed back what was sent over it.
+    fn put_linked(&mut self) -> Result<(), AllocError> {
+        for place in self.net.dialled.as_slice() {
+            let line = format!(in self.alloc; "-- dialled {}", place.as_text())?;
+            put_line(&mut self.given, line.as_str())?;
+        }
+        for link in self.net.back.as_slice() {
+            put_line(&mut self.given, "-- sent")?;
+            for text in link.inner.sent.as_slice() {
+                put_line(&mut self.given, text.as_text())?;
             }
         }
         Ok(())

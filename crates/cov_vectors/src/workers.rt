@@ -1,7 +1,8 @@
 //! Workers that run at once.
 use crate::memory::store_of;
-use cov_commands::{Ended, run, run_collect};
-use cov_io::{Gate, MemSink, NoGate, SureSpawner};
+use cov_commands::{Ended, run_collect};
+use cov_io::{Gate, MemNet, MemSink, NoGate, SureSpawner};
+use cov_live::run;
 use cov_text::Items;
 use std::alloc::{AllocError, Global};
 use std::process::Abort;
@@ -102,6 +103,7 @@ fn near_the_limit_there_are_two_outcomes(rt: HostRuntime) -> Result<(), Fail> {
         ("cov/c.json", NONE),
     ];
     let mut store = store_of(alloc, files.as_slice())?;
+    let mut net = MemNet::new(alloc, Vec::new(alloc), Items::new(alloc));
     let mut spawner = SureSpawner::new(alloc, 0);
     let mut out = MemSink::new(alloc, Items::new(alloc));
     let mut err = MemSink::new(alloc, Items::new(alloc));
@@ -111,6 +113,7 @@ fn near_the_limit_there_are_two_outcomes(rt: HostRuntime) -> Result<(), Fail> {
         words.as_slice(),
         &mut store,
         &NoGate,
+        &mut net,
         &mut spawner,
         &mut out,
         &mut err,
