@@ -37,11 +37,20 @@ def one(name: str, ranges: list[tuple[int, int, int]]) -> str:
     return text({"file:///a.js": [function(name, ranges)]})
 
 
+def falling_parts(n: int) -> str:
+    """Entries of one url with a function each, the last function first."""
+    made = [{"scriptId": "0", "url": "file:///a.js", "functions": [f]} for f in flat_functions(n, 1)[::-1]]
+    return compact({"result": made})
+
+
 # Each kind gives the texts of its folder at a size.
 KINDS = {
     "snapshots": (200, lambda n: [text({"file:///a.js": flat_functions(50, k + 1)}) for k in range(n)]),
     "scripts": (2000, lambda n: [text({f"file:///{k}.js": flat_functions(5, 1) for k in range(n)})] * 2),
     "functions": (10000, lambda n: [text({"file:///a.js": flat_functions(n, 1)})] * 2),
+    "functions falling": (10000, lambda n: [text({"file:///a.js": flat_functions(n, 1)[::-1]})] * 2),
+    "urls falling": (10000, lambda n: [text({f"file:///{k:06}.js": flat_functions(1, 1) for k in reversed(range(n))})] * 2),
+    "one url in falling parts": (10000, lambda n: [falling_parts(n)] * 2),
     "sibling ranges": (15000, lambda n: [one("f", siblings(n, 1))] * 2),
     "nested ranges": (12500, lambda n: [one("f", [(k, 4 * n - k, k + 1) for k in range(n)])] * 2),
     "crossing at the end": (15000, lambda n: [one("f", siblings(n, 1) + [(3 * n - 5, 3 * n - 1, 1)])]),
