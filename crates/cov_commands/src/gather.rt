@@ -147,7 +147,7 @@ fn take_name<S: Store>(
         Ok(bytes) => bytes,
         Err(fault) => return Err(ended_by(fault)),
     };
-    match take_text(alloc, book, merged, path.as_str(), bytes.as_slice(), maps) {
+    match take_text(alloc, book, merged, path.as_str(), bytes, maps) {
         Ok(()) => Ok(()),
         Err(_) => Err(Ended::NoMemory),
     }
@@ -173,18 +173,18 @@ fn take_text(
     book: &mut Book,
     merged: &mut Merged,
     path: &str,
-    bytes: &[u8],
+    bytes: Vec<u8>,
     maps: Maps,
 ) -> Result<(), AllocError>
     ensures book { OnOk result ((held : List Snapshot) → StandsFor book.old held
-        → StandsFor book.new (after held (reading bytes.now))) }
+        → StandsFor book.new (after held (reading bytes.items))) }
     ensures lines { OnOk result ((held : List Snapshot) → StandsFor book.old held
-        → merged.new.lines ≡ merged.old.lines ++ lines.answer_line path.now (answer_to held (reading bytes.now))) }
+        → merged.new.lines ≡ merged.old.lines ++ lines.answer_line path.now (answer_to held (reading bytes.items))) }
     ensures refused { OnOk result ((held : List Snapshot) → StandsFor book.old held
-        → merged.new.refused ≡ (merged.old.refused || is_refusal (answer_to held (reading bytes.now)))) }
+        → merged.new.refused ≡ (merged.old.refused || is_refusal (answer_to held (reading bytes.items)))) }
     ensures entries { OnOk result ((held : List Snapshot) (all : List Said) → StandsFor book.old held
         → AreFirsts all merged.old.entries
-        → AreFirsts (all ++ kept_if maps (entries_if_taken bytes.now (answer_to held (reading bytes.now)))) merged.new.entries) }
+        → AreFirsts (all ++ kept_if maps (entries_if_taken bytes.items (answer_to held (reading bytes.items)))) merged.new.entries) }
 {
     let answer = answer_of(alloc, book, &mut merged.entries, bytes, maps)?;
     let line = answer_line(alloc, path, &answer)?;
@@ -193,21 +193,24 @@ fn take_text(
     Ok(())
 }
 
+/// How a text is answered. It is let go once it is read, before the book takes memory for the snapshot.
 fn answer_of(
     alloc: Global,
     book: &mut Book,
     entries: &mut FirstEntries,
-    bytes: &[u8],
+    bytes: Vec<u8>,
     maps: Maps,
 ) -> Result<Answer, AllocError>
     ensures book { OnOk result ((held : List Snapshot) → StandsFor book.old held
-        → StandsFor book.new (after held (reading bytes.now))) }
+        → StandsFor book.new (after held (reading bytes.items))) }
     ensures answer { IfOk result (λ answer. (held : List Snapshot) → StandsFor book.old held
-        → answer ≡ answer_to held (reading bytes.now)) }
+        → answer ≡ answer_to held (reading bytes.items)) }
     ensures entries { IfOk result (λ answer. (all : List Said) → AreFirsts all entries.old
-        → AreFirsts (all ++ kept_if maps (entries_if_taken bytes.now answer)) entries.new) }
+        → AreFirsts (all ++ kept_if maps (entries_if_taken bytes.items answer)) entries.new) }
 {
-    match read_for(alloc, bytes, maps) {
+    let read = read_for(alloc, bytes.as_slice(), maps);
+    drop(bytes);
+    match read {
         Ok((snapshot, found)) => match add(book, &snapshot)? {
             Answer::Taken => {
                 entries.keep(found)?;

@@ -22,12 +22,11 @@ returns-in-Ok-take_text-clause-taken g c =
     let path = path_in c.args.folder.now c.args.name.now in
     let first : c.as_str.result.now ≡ path = c.as_str.ensures.value ∙ c.in-Ok.ensures in
     let second : c.as_str-2.result.now ≡ path = c.as_str-2.ensures.value ∙ c.in-Ok.ensures in
-    let r = reading c.as_slice.result.now in
+    let r = reading c.in-Ok-read.bytes.items in
     λ files is names h.
     HasTaken-snoc c.args.folder.now files names c.args.name.now _ _ _ _ r
     (sym c.is_json.ensures ∙ c.if-not-is_json.false) h
-    (ap reading c.as_slice.ensures.value
-    ∙ reading-found (bytes_at path files) c.in-Ok-read.bytes.items
+    (reading-found (bytes_at path files) c.in-Ok-read.bytes.items
     (subst (λ p. option_map (take 134217729) (bytes_at p files) ≡ Some c.in-Ok-read.bytes.items) first (c.in-Ok-read.ensures.bytes files is)))
     c.in-Ok-take_text.ensures.book
     (λ held stands. c.in-Ok-take_text.ensures.lines held stands ∙ ap (λ p. c.args.merged.now.lines ++ answer_line p (answer_to held r)) second)
@@ -39,8 +38,8 @@ returns-in-Ok-take_text-clause-entries g c =
     let first : c.as_str.result.now ≡ path = c.as_str.ensures.value ∙ c.in-Ok.ensures in
     λ files is names h kept.
     let found = subst (λ p. option_map (take 134217729) (bytes_at p files) ≡ Some c.in-Ok-read.bytes.items) first (c.in-Ok-read.ensures.bytes files is) in
-    HasKept-snoc c.args.maps c.args.folder.now files names c.args.name.now _ c.args.merged.now c.take_text.new.merged c.as_slice.result.now
+    HasKept-snoc c.args.maps c.args.folder.now files names c.args.name.now _ c.args.merged.now c.take_text.new.merged c.in-Ok-read.bytes.items
     (sym c.is_json.ensures ∙ c.if-not-is_json.false) h kept
-    (ap reading c.as_slice.ensures.value ∙ reading-found (bytes_at path files) c.in-Ok-read.bytes.items found)
-    (ap maps_reading c.as_slice.ensures.value ∙ maps-found (bytes_at path files) c.in-Ok-read.bytes.items found)
+    (reading-found (bytes_at path files) c.in-Ok-read.bytes.items found)
+    (maps-found (bytes_at path files) c.in-Ok-read.bytes.items found)
     c.in-Ok-take_text.ensures.entries
