@@ -1,5 +1,5 @@
 -- Scripts and their functions, as one list of sums.
-use Rattle.std.proofs.Common.{◌≡◌, ℕ, zero, suc, ◌+◌, ◌<◌, ◌≤◌, length, arith, Bool, true, false, List, [], ◌∷◌, ◌++◌, map, take, drop, get_or, refl, sym, ap, ◌∙◌, subst}
+use Rattle.std.proofs.Common.{◌≡◌, ℕ, zero, suc, ◌+◌, ◌<◌, ◌≤◌, length, arith, Bool, true, false, List, [], ◌∷◌, ◌++◌, take, drop, get_or, refl, sym, ap, ◌∙◌, subst}
 use Rattle.std.specs.Prelude.{Option, None, Some, cond, slice_get, ◌&&◌, ◌==◌}
 use Rattle.std.specs.Option.{option_or}
 use Rattle.std.specs.List.{AllByRecursion, insert, slice_set}
@@ -19,7 +19,8 @@ use Rattle.cov_book.specs.declared.sums.Sums.{Sums}
 use Rattle.cov_book.specs.declared.scripts.Function.{Function}
 use Rattle.cov_book.specs.declared.scripts.Script.{Script}
 use Rattle.cov_book.specs.declared.placing.Update.{Update}
-use Rattle.cov_book.specs.Room.{HasRoom, IsPutIn}
+use Rattle.cov_book.specs.Room.{HasRoom, IsPutIn, changes_in}
+use Rattle.cov_book.specs.Renewed.{changed_urls}
 use Rattle.std.specs.Vec.{vec_capacity}
 use Rattle.cov_book.specs.Listed.{AreInOrder, AreSorted, IsPlace, Knows, own, own_list, listed, all_listed, urls_in, of_url, is_front, is_there, held_in}
 use Rattle.cov_book.specs.Least.{IsLeastSoFar}
@@ -114,7 +115,7 @@ later-held key (s ∷ ss) h =
     ∙ ap (λ o. option_or o (held_in ss key)) (other-url s.url s.functions key (less-differs key.url s.url h.0))
     ∙ later-held key ss h.1
 
-none-or : (o : Option Sums) → option_or o None ≡ o
+pub none-or : (o : Option Sums) → option_or o None ≡ o
 none-or None = refl
 none-or (Some s) = refl
 
@@ -321,14 +322,6 @@ pub empty-in-order : AreInOrder []
 unfolding IsStrictlySortedBy
 empty-in-order = tt
 
--- a script without functions has none of any url
-pub none-more : (u url : List ℕ) (ss : List Script) → of_url url ss ≡ [] → cond (same_text url u) [] (of_url u ss) ≡ of_url u ss
-none-more u url ss none = by (same_text url u) refl
-  where
-    by : (b : Bool) → same_text url u ≡ b → cond b [] (of_url u ss) ≡ of_url u ss
-    by true e = sym (ap (λ v. of_url v ss) (sym (text-same url u e)) ∙ none)
-    by false e = refl
-
 -- ---- a script taken out, changed and put back
 
 pub there-here : (url : List ℕ) (fs : List Function) (o : Option Script) → o ≡ Some (record { url = url; functions = fs }) → is_there url o ≡ true
@@ -388,10 +381,6 @@ module _ (all : List (Key × Sums)) (url : List ℕ) (old scripts : List Script)
   leave fs new least later are so_far =
       so-far-same all (apart url old (held_in scripts)) (held_in scripts) (own_list url fs) (all_listed new) least (one-script url fs old new (held_in scripts) sorts later are) so_far
 
-pub none-sorted : AreSorted []
-unfolding IsStrictlySortedBy
-none-sorted = record { urls = tt; functions = tt }
-
 -- a script put in its place
 pub put-one : (s : Script) (gs : List Function) (ss more : List Script) → IsStrictlySortedBy text_cmp (urls_in ss) → IsStrictlySortedBy text_cmp (urls_in more)
     → ((u : List ℕ) → of_url u more ≡ cond (same_text s.url u) gs (of_url u ss))
@@ -444,40 +433,34 @@ put-fresh s ss more at sorted place none now order =
 
 -- ---- scripts put in their places one after the other
 
-abbrev pub scripts_in : List Update → List Script
-scripts_in us = map (λ (u : Update). u.script) us
-
-pub rest-sorted : (s : Script) (ss : List Script) → AreSorted (s ∷ ss) → AreSorted ss
-unfolding IsStrictlySortedBy
-rest-sorted s ss h = record { urls = h.urls.1; functions = h.functions.1 }
-
-pub first-in-order : (s : Script) (ss : List Script) → AreSorted (s ∷ ss) → AreInOrder s.functions
-first-in-order s ss h = h.functions.0
-
 three : (a b c : Option Sums) (t : Bool) → (t ≡ true → b ≡ None) → (t ≡ false → a ≡ None) → option_or b (option_or a c) ≡ option_or (option_or a b) c
 three a b c true late early = ap (λ o. option_or o (option_or a c)) (late refl) ∙ ap (λ o. option_or o c) (sym (none-or a) ∙ ap (option_or a) (sym (late refl)))
 three a b c false late early = ap (λ o. option_or b (option_or o c)) (early refl) ∙ sym (ap (λ o. option_or (option_or o b) c) (early refl))
 
-pub held-next : (s : Script) (rest ss more : List Script) → AreSorted (s ∷ rest) → ((key : Key) → held_in more key ≡ option_or (lookup (is_at (file_order key)) (listed s)) (held_in ss key))
+pub held-next : (s : Script) (rest ss more : List Script) → IsStrictlySortedBy text_cmp (urls_in (s ∷ rest)) → ((key : Key) → held_in more key ≡ option_or (lookup (is_at (file_order key)) (listed s)) (held_in ss key))
     → (key : Key) → option_or (held_in rest key) (held_in more key) ≡ option_or (held_in (s ∷ rest) key) (held_in ss key)
 unfolding IsStrictlySortedBy
 held-next s rest ss more sorted put key =
     let a = lookup (is_at (file_order key)) (listed s) in
     ap (option_or (held_in rest key)) (put key)
     ∙ three a (held_in rest key) (held_in ss key) (same_text key.url s.url)
-    (λ e. later-held key rest (subst (λ u. AllByRecursion (λ v. text_cmp u v ≡ Less) (urls_in rest)) (sym (text-same key.url s.url e)) sorted.urls.0))
+    (λ e. later-held key rest (subst (λ u. AllByRecursion (λ v. text_cmp u v ≡ Less) (urls_in rest)) (sym (text-same key.url s.url e)) sorted.0))
     (λ e. other-url s.url s.functions key e)
     ∙ ap (λ o. option_or o (held_in ss key)) (sym (lookup-append (is_at (file_order key)) (listed s) (all_listed rest)))
 
-room-each : (url : List ℕ) (us : List Update) (ss more : List Script) → AllByRecursion (λ u. text_cmp url u ≡ Less) (urls_in (scripts_in us)) → ((u : List ℕ) → same_text url u ≡ false → of_url u more ≡ of_url u ss)
+room-each : (url : List ℕ) (us : List Update) (ss more : List Script) → AllByRecursion (λ u. text_cmp url u ≡ Less) (changed_urls (changes_in us)) → ((u : List ℕ) → same_text url u ≡ false → of_url u more ≡ of_url u ss)
     → AllByRecursion (HasRoom ss) us → AllByRecursion (HasRoom more) us
 room-each url [] ss more lt same h = tt
 room-each url (u ∷ us) ss more lt same h = (
-  record { empty = h.0.empty; len = h.0.len; room = subst (λ fs. length fs + length u.script.functions ≤ vec_capacity u.room) (sym (same u.script.url (less-differs url u.script.url lt.0))) h.0.room },
+  record {
+    empty = h.0.empty;
+    len = h.0.len;
+    room = λ some. subst (λ fs. length fs + length u.change.functions.fresh.items ≤ vec_capacity u.room) (sym (same u.change.url (less-differs url u.change.url lt.0))) (h.0.room some);
+  },
   room-each url us ss more lt.1 same h.1,
 )
 
-pub room-next : (u : Update) (rest : List Update) (ss more : List Script) → AreSorted (scripts_in (u ∷ rest)) → ((v : List ℕ) → same_text u.script.url v ≡ false → of_url v more ≡ of_url v ss)
+pub room-next : (u : Update) (rest : List Update) (ss more : List Script) → IsStrictlySortedBy text_cmp (changed_urls (changes_in (u ∷ rest))) → ((v : List ℕ) → same_text u.change.url v ≡ false → of_url v more ≡ of_url v ss)
     → AllByRecursion (HasRoom ss) (u ∷ rest) → AllByRecursion (HasRoom more) rest
 unfolding IsStrictlySortedBy
-room-next u rest ss more sorted same h = room-each u.script.url rest ss more sorted.urls.0 same h.1
+room-next u rest ss more sorted same h = room-each u.change.url rest ss more sorted.0 same h.1

@@ -20,7 +20,7 @@ use Rattle.cov_book.proofs.Searched.{order-own}
 
 -- ---- look-ups in two lists, one behind the other
 
-found-append : (test : Key → Bool) (url : List ℕ) (xs ys : List Function) → lookup test (own_list url (xs ++ ys)) ≡ option_or (lookup test (own_list url xs)) (lookup test (own_list url ys))
+pub found-append : (test : Key → Bool) (url : List ℕ) (xs ys : List Function) → lookup test (own_list url (xs ++ ys)) ≡ option_or (lookup test (own_list url xs)) (lookup test (own_list url ys))
 found-append test url [] ys = refl
 found-append test url (x ∷ xs) ys =
     elim (test (own url x).0) as (λ b. cond b (Some x.sums) (lookup test (own_list url (xs ++ ys))) ≡ option_or (cond b (Some x.sums) (lookup test (own_list url xs))) (lookup test (own_list url ys))) [

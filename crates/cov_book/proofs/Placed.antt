@@ -1,5 +1,5 @@
 -- Functions put in their places.
-use Rattle.std.proofs.Common.{map, ◌≡◌, ℕ, length, ◌++◌, arith, Bool, true, false, List, [], ◌∷◌, refl, sym, ap, ◌∙◌, subst}
+use Rattle.std.proofs.Common.{◌≡◌, ℕ, length, ◌++◌, arith, Bool, true, false, List, [], ◌∷◌, refl, sym, ap, ◌∙◌, subst}
 use Rattle.std.specs.Prelude.{Option, None, Some, option_map, slice_get, cond, is_some, Result, Ok, Err, is_ok, IsOk}
 use Rattle.std.specs.List.{AllByRecursion}
 use Rattle.std.specs.List.Sorted.{IsStrictlySortedBy}
@@ -19,8 +19,9 @@ use Rattle.cov_model.specs.Sums.{file_order, key_of, same_key}
 use Rattle.cov_book.proofs.Keyed.{is-at}
 use Rattle.cov_book.specs.declared.sums.Sums.{Sums}
 use Rattle.cov_book.specs.declared.scripts.Function.{Function}
-use Rattle.cov_book.specs.declared.scripts.Script.{Script}
+use Rattle.cov_book.specs.declared.changed.ScriptChange.{ScriptChange}
 use Rattle.cov_book.specs.declared.placing.Update.{Update}
+use Rattle.cov_book.specs.Room.{changes_in}
 use Rattle.cov_book.specs.Listed.{AreInOrder, bare, bare_key, own, own_list}
 use Rattle.cov_book.specs.Least.{IsLeastSoFar, comes_before}
 use Rattle.cov_model.specs.declared.snapshot.Entry.{Entry}
@@ -157,9 +158,9 @@ pub none-left : {A : Type 0} (xs : List A) → length xs ≡ 0 → xs ≡ []
 none-left [] e = refl
 none-left (x ∷ xs) e = absurd (omega (arith, e))
 
-pub scripts-push : (us : List Update) (u : Update) (rest : List Script) → map (λ (x : Update). x.script) (us ++ u ∷ []) ++ rest ≡ map (λ (x : Update). x.script) us ++ u.script ∷ rest
-scripts-push [] u rest = refl
-scripts-push (x ∷ xs) u rest = ap (λ ss. x.script ∷ ss) (scripts-push xs u rest)
+pub changes-push : (us : List Update) (u : Update) (rest : List ScriptChange) → changes_in (us ++ u ∷ []) ++ rest ≡ changes_in us ++ u.change ∷ rest
+changes-push [] u rest = refl
+changes-push (x ∷ xs) u rest = ap (λ cs. x.change ∷ cs) (changes-push xs u rest)
 
 pub lookup-same : (k : Key) (es : List (Key × Sums)) → lookup (is_at (file_order k)) es ≡ lookup (same_key k) es
 lookup-same k [] = refl

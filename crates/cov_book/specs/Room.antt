@@ -1,5 +1,5 @@
 -- Words of private functions: room for what is put in place, and what it then is.
-use Rattle.std.specs.Prelude.{◌≡◌, ℕ, ◌+◌, ◌≤◌, false, List, [], length}
+use Rattle.std.specs.Prelude.{◌≡◌, ℕ, ◌+◌, ◌≤◌, false, List, [], map, length}
 use Rattle.std.specs.Map.{lookup}
 use Rattle.std.specs.Option.{option_or}
 use Rattle.std.specs.BTreeMap.{is_at}
@@ -9,14 +9,21 @@ use Rattle.cov_text.specs.Listing.{same_text, text_cmp}
 use Rattle.cov_model.specs.declared.sums.Key.{Key}
 use Rattle.cov_model.specs.Sums.{file_order}
 use Rattle.cov_book.specs.declared.scripts.Script.{Script}
+use Rattle.cov_book.specs.declared.changed.ScriptChange.{ScriptChange}
 use Rattle.cov_book.specs.declared.placing.Update.{Update}
 use Rattle.cov_book.specs.Listed.{held_in, listed, of_url, urls_in, AreSorted}
 
--- there is room for the functions of a script and those that are held of its url
+abbrev pub IfNot : Type 0 → Type 0 → Type 0
+IfNot p q = (p → ⊥) → q
+
+abbrev pub changes_in : List Update → List ScriptChange
+changes_in us = map (λ u. u.change) us
+
+-- where functions are put in, there is room for them and for those that are held of their url
 pub record HasRoom (scripts : List Script) (u : Update) : Type 0 where
   pub empty : u.room.items ≡ []
   pub len : vec_len u.room ≡ 0
-  pub room : length (of_url u.script.url scripts) + length u.script.functions ≤ vec_capacity u.room
+  pub room : IfNot (u.change.functions.fresh.items ≡ []) (length (of_url u.change.url scripts) + length u.change.functions.fresh.items ≤ vec_capacity u.room)
 
 -- the functions of a script came in the place of those of the same root and name, and other scripts stayed
 pub record IsPutIn (s : Script) (old new : List Script) : Type 0 where

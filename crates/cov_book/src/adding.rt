@@ -11,17 +11,17 @@ ghost use Rattle.cov_book.specs.Stretching.{IfRooted};
 ghost use Rattle.cov_book.specs.Prepared.{AreKept, ArePrepared, IfPast, IsWithin, report_runs, report_sums, runs_held, summed, sums_now, with_report, with_reports, with_entries};
 ghost use Rattle.cov_book.specs.Least.{comes_before, CanGoOn, IsLeastPast, IsLeastSoFar};
 ghost use Rattle.cov_book.specs.Listed.{all_listed, own_list, urls_in, held_in, AreInOrder, AreSorted, Knows, CanGoOnIn};
+ghost use Rattle.cov_book.specs.Renewed.{AreChanged, changed_scripts, changed_urls, made};
 ghost use Rattle.cov_book.specs.Told.{named};
 ghost use Rattle.cov_book.specs.Urls.{urls_of};
 ghost use Rattle.cov_book.specs.Entries.{entries_of};
 ghost use Rattle.cov_book.specs.Weights.{entries_in};
 ghost use Rattle.cov_model.specs.declared.snapshot.Snapshot.{Snapshot};
 
+use crate::changed::{FunctionChanges, ScriptChange, place_of_change, put_sums, sums_so_far};
 use crate::cutting::{Part, parts_of};
-use crate::looking::{functions_of, sums_among};
-use crate::scripts::{
-    Function, Script, place_of_script, put_function, set_functions, take_functions,
-};
+use crate::looking::{functions_of, place_among};
+use crate::scripts::{Function, Script};
 use crate::sums::{Stop, Sums, sum_with, sums_of};
 use cov_model::{FunctionReport, Key, Snapshot, Steps, Text};
 use std::alloc::{AllocError, Global};
@@ -31,9 +31,8 @@ use std::sync::ledger::Ledger;
 /// What an addition of a snapshot would change.
 #[derive(Drop)]
 pub struct Changes {
-    /// The scripts of the snapshot, each with the functions of which there are reports, with their
-    /// sums then.
-    pub scripts: Vec<Script>,
+    /// What changes of each script of the snapshot.
+    pub scripts: Vec<ScriptChange>,
     /// The first function, in the order of the file, of which a sum passes the limit. The sums of
     /// those behind it may lack reports.
     pub past: Option<Key>,
@@ -49,12 +48,12 @@ pub fn changes_by<L: Ledger>(
     requires order { AreSorted scripts.now }
     requires kept { AreKept (all_listed scripts.now) }
     requires held { (held : List Snapshot) × (all_listed scripts.now ≡ entries_of held) }
-    ensures order { IfOk result (λ changes. AreSorted changes.scripts.items) }
-    ensures urls { IfOk result (λ changes. urls_in changes.scripts.items
+    ensures order { IfOk result (λ changes. AreChanged changes.scripts.items) }
+    ensures urls { IfOk result (λ changes. changed_urls changes.scripts.items
         ≡ in_order text_cmp (urls_of snapshot.now)) }
     ensures sums { IfOk result (λ changes. changes.past ≡ None → ArePrepared (with_entries
         (all_listed scripts.now) snapshot.now) (held_in scripts.now) (all_listed
-        changes.scripts.items)) }
+        (changed_scripts scripts.now changes.scripts.items))) }
     ensures past { IfOk result (λ changes. IsLeastPast (with_entries (all_listed scripts.now)
         snapshot.now) changes.past) }
     ensures nested { AreNested snapshot.now }
@@ -77,12 +76,12 @@ fn changes_in<L: Ledger>(
     requires order { AreSorted scripts.now }
     requires kept { AreKept (all_listed scripts.now) }
     requires nested { AreNested (entries_in parts.now) }
-    ensures order { IfOk result (λ changes. AreSorted changes.scripts.items) }
-    ensures urls { IfOk result (λ changes. urls_in changes.scripts.items
+    ensures order { IfOk result (λ changes. AreChanged changes.scripts.items) }
+    ensures urls { IfOk result (λ changes. changed_urls changes.scripts.items
         ≡ in_order text_cmp (urls_of (entries_in parts.now))) }
     ensures sums { IfOk result (λ changes. changes.past ≡ None → ArePrepared (with_entries
         (all_listed scripts.now) (entries_in parts.now)) (held_in scripts.now) (all_listed
-        changes.scripts.items)) }
+        (changed_scripts scripts.now changes.scripts.items))) }
     ensures past { IfOk result (λ changes. IsLeastPast (with_entries (all_listed scripts.now)
         (entries_in parts.now)) changes.past) }
     ensures cost { IfOk result (λ changes. changes.past ≡ None → (bound : Key → ℕ) → ((key : Key)
@@ -113,70 +112,71 @@ fn changes_in<L: Ledger>(
 fn add_script<L: Ledger>(
     alloc: Global,
     scripts: &[Script],
-    changed: &mut Vec<Script>,
+    changed: &mut Vec<ScriptChange>,
     before: Option<Key>,
     url: &Text,
     reports: &[FunctionReport],
     steps: &mut Steps<L>,
 ) -> Result<Option<Key>, AllocError>
     requires held { AreSorted scripts.now }
-    requires changed { AreSorted changed.now.items }
-    requires so_far { CanGoOn (held_in scripts.now) (all_listed changed.now.items) before }
+    requires changed { AreChanged changed.now.items }
+    requires so_far { CanGoOn (held_in scripts.now) (all_listed (changed_scripts scripts.now
+        changed.now.items)) before }
     requires nested { AreReportsNested reports.now }
-    ensures order { OnOk result (AreSorted changed.new.items) }
-    ensures urls { OnOk result (urls_in changed.new.items
-        ≡ insert_key text_cmp (urls_in changed.old.items) url.now) }
+    ensures order { OnOk result (AreChanged changed.new.items) }
+    ensures urls { OnOk result (changed_urls changed.new.items
+        ≡ insert_key text_cmp (changed_urls changed.old.items) url.now) }
     ensures sums { IfOk result (λ now. (all : List (Key × Sums))
-        → IsLeastSoFar all (held_in scripts.now) (all_listed changed.old.items) before
+        → IsLeastSoFar all (held_in scripts.now) (all_listed (changed_scripts scripts.now
+        changed.old.items)) before
         → IsLeastSoFar (with_reports all url.now reports.now) (held_in scripts.now)
-        (all_listed changed.new.items) now) }
+        (all_listed (changed_scripts scripts.now changed.new.items)) now) }
     ensures cost { IfOk result (λ now. now ≡ None → (all : List (Key × Sums)) (bound : Key → ℕ)
-        → IsLeastSoFar all (held_in scripts.now) (all_listed changed.old.items) before → ((key : Key)
+        → IsLeastSoFar all (held_in scripts.now) (all_listed (changed_scripts scripts.now
+        changed.old.items)) before → ((key : Key)
         → runs_at all key + sum_by (own_runs key url.now) reports.now ≤ bound key)
         → steps.new ≤ steps.old + for_reports bound url.now reports.now) }
     ensures grows { IfOk result (λ now. now ≡ None → (all : List (Key × Sums))
-        → IsLeastSoFar all (held_in scripts.now) (all_listed changed.old.items) before → (key : Key)
+        → IsLeastSoFar all (held_in scripts.now) (all_listed (changed_scripts scripts.now
+        changed.old.items)) before → (key : Key)
         → runs_at (with_reports all url.now reports.now) key ≤ runs_at all key
         + sum_by (own_runs key url.now) reports.now) }
     ensures stays { IfOk result (λ now. now ≡ None → before ≡ None) }
     ensures later { steps.old ≤ steps.new }
 {
     let held = functions_of(scripts, url.as_text());
-    let at = place_of_script(alloc, changed, url)?;
-    let mut functions = take_functions(alloc, changed, at);
-    let past = add_reports(alloc, held, &mut functions, before, url, reports, steps)?;
-    set_functions(changed, at, functions);
-    Ok(past)
+    let at = place_of_change(alloc, changed, url)?;
+    let changes = &mut changed[at].functions;
+    add_reports(alloc, held, changes, before, url, reports, steps)
 }
 
 /// Adds each report of a script to the sums of its function.
 fn add_reports<L: Ledger>(
     alloc: Global,
     held: &[Function],
-    changed: &mut Vec<Function>,
+    changes: &mut FunctionChanges,
     before: Option<Key>,
     url: &Text,
     reports: &[FunctionReport],
     steps: &mut Steps<L>,
 ) -> Result<Option<Key>, AllocError>
     requires held { AreInOrder held.now }
-    requires changed { AreInOrder changed.now.items }
-    requires so_far { CanGoOnIn url.now held.now changed.now.items before }
+    requires changes { AreInOrder changes.now.fresh.items }
+    requires so_far { CanGoOnIn url.now held.now (made held.now changes.now) before }
     requires nested { AreReportsNested reports.now }
-    ensures order { OnOk result (AreInOrder changed.new.items) }
+    ensures order { OnOk result (AreInOrder changes.new.fresh.items) }
     ensures sums { IfOk result (λ now. (all : List (Key × Sums)) (functions : Key → Option Sums)
         → Knows url.now held.now functions
-        → IsLeastSoFar all functions (own_list url.now changed.old.items) before
-        → IsLeastSoFar (with_reports all url.now reports.now) functions (own_list
-        url.now changed.new.items) now) }
+        → IsLeastSoFar all functions (own_list url.now (made held.now changes.old)) before
+        → IsLeastSoFar (with_reports all url.now reports.now) functions (own_list url.now (made held.now changes.new)) now) }
     ensures cost { IfOk result (λ now. now ≡ None → (all : List (Key × Sums)) (functions : Key
         → Option Sums) (bound : Key → ℕ) → Knows url.now held.now functions
-        → IsLeastSoFar all functions (own_list url.now changed.old.items) before → ((key : Key)
+        → IsLeastSoFar all functions (own_list url.now (made held.now changes.old)) before → ((key : Key)
         → runs_at all key + sum_by (own_runs key url.now) reports.now ≤ bound key)
         → steps.new ≤ steps.old + for_reports bound url.now reports.now) }
     ensures grows { IfOk result (λ now. now ≡ None → (all : List (Key × Sums)) (functions : Key
         → Option Sums) → Knows url.now held.now functions
-        → IsLeastSoFar all functions (own_list url.now changed.old.items) before → (key : Key)
+        → IsLeastSoFar all functions (own_list url.now (made held.now changes.old)) before → (key : Key)
         → runs_at (with_reports all url.now reports.now) key ≤ runs_at all key
         + sum_by (own_runs key url.now) reports.now) }
     ensures stays { IfOk result (λ now. now ≡ None → before ≡ None) }
@@ -184,7 +184,7 @@ fn add_reports<L: Ledger>(
 {
     let mut past = before;
     for report in reports {
-        past = add_report(alloc, held, changed, past, url, report, steps)?;
+        past = add_report(alloc, held, changes, past, url, report, steps)?;
     }
     Ok(past)
 }
@@ -194,30 +194,29 @@ fn add_reports<L: Ledger>(
 fn add_report<L: Ledger>(
     alloc: Global,
     held: &[Function],
-    changed: &mut Vec<Function>,
+    changes: &mut FunctionChanges,
     past: Option<Key>,
     url: &Text,
     report: &FunctionReport,
     steps: &mut Steps<L>,
 ) -> Result<Option<Key>, AllocError>
     requires held { AreInOrder held.now }
-    requires changed { AreInOrder changed.now.items }
-    requires so_far { CanGoOnIn url.now held.now changed.now.items past }
+    requires changes { AreInOrder changes.now.fresh.items }
+    requires so_far { CanGoOnIn url.now held.now (made held.now changes.now) past }
     requires nested { range_fault report.now.ranges ≡ None }
-    ensures order { OnOk result (AreInOrder changed.new.items) }
+    ensures order { OnOk result (AreInOrder changes.new.fresh.items) }
     ensures sums { IfOk result (λ now. (all : List (Key × Sums)) (functions : Key → Option Sums)
         → Knows url.now held.now functions
-        → IsLeastSoFar all functions (own_list url.now changed.old.items) past
-        → IsLeastSoFar (with_report all url.now report.now) functions (own_list url.now
-        changed.new.items) now) }
+        → IsLeastSoFar all functions (own_list url.now (made held.now changes.old)) past
+        → IsLeastSoFar (with_report all url.now report.now) functions (own_list url.now (made held.now changes.new)) now) }
     ensures cost { IfOk result (λ now. now ≡ None → (all : List (Key × Sums)) (functions : Key
         → Option Sums) (bound : Key → ℕ) → Knows url.now held.now functions
-        → IsLeastSoFar all functions (own_list url.now changed.old.items) past → ((key : Key)
+        → IsLeastSoFar all functions (own_list url.now (made held.now changes.old)) past → ((key : Key)
         → runs_at all key + own_runs key url.now report.now ≤ bound key)
         → steps.new ≤ steps.old + for_report bound url.now report.now) }
     ensures grows { IfOk result (λ now. now ≡ None → (all : List (Key × Sums)) (functions : Key
         → Option Sums) → Knows url.now held.now functions
-        → IsLeastSoFar all functions (own_list url.now changed.old.items) past → (key : Key)
+        → IsLeastSoFar all functions (own_list url.now (made held.now changes.old)) past → (key : Key)
         → runs_at (with_report all url.now report.now) key ≤ runs_at all key
         + own_runs key url.now report.now) }
     ensures stays { IfOk result (λ now. now ≡ None → past ≡ None) }
@@ -230,19 +229,11 @@ fn add_report<L: Ledger>(
     if !is_before(url, start, end, &report.name, &past) {
         return Ok(past);
     }
-    let before = sums_so_far(held, changed, start, end, report.name.as_text());
+    let place = place_among(held, start, end, report.name.as_text());
+    let before = sums_so_far(held, changes, place, start, end, report.name.as_text());
     match sums_with(alloc, before, report, steps) {
         Ok(sums) => {
-            let name = report.name.clone()?;
-            put_function(
-                changed,
-                Function {
-                    start,
-                    end,
-                    name,
-                    sums,
-                },
-            )?;
+            put_sums(changes, place, start, end, &report.name, sums)?;
             Ok(past)
         }
         Err(Stop::Past) => Ok(Some(key_named(url, start, end, &report.name)?)),
@@ -260,26 +251,6 @@ fn key_named(url: &Text, start: u32, end: u32, name: &Text) -> Result<Key, Alloc
         end,
         name: name.clone()?,
     })
-}
-
-/// The sums of a function, as they were changed, or else as they are held.
-fn sums_so_far<'a>(
-    held: &'a [Function],
-    changed: &'a [Function],
-    start: u32,
-    end: u32,
-    name: &str,
-) -> Option<&'a Sums>
-    requires held { AreInOrder held.now }
-    requires changed { AreInOrder changed.now }
-    ensures { (url : List ℕ) (functions : Key → Option Sums) → Knows url held.now functions
-        → option_copied result ≡ sums_now functions (own_list url changed.now) (named url start end
-        name.now) }
-{
-    match sums_among(changed, start, end, name) {
-        Some(sums) => Some(sums),
-        None => sums_among(held, start, end, name),
-    }
 }
 
 /// The sums of a function with those of one more report.

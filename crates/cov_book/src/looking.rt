@@ -1,5 +1,5 @@
 //! Searches by halves in the lists of a book. They take no memory.
-ghost use Rattle.std.specs.Prelude.{◌≡◌, [], List, ℕ, option_copied, option_map};
+ghost use Rattle.std.specs.Prelude.{◌≡◌, [], List, ℕ, is_some, option_copied, option_map, slice_get};
 ghost use Rattle.std.specs.List.Sorted.{IsStrictlySortedBy};
 ghost use Rattle.std.specs.Map.{lookup};
 ghost use Rattle.std.specs.BTreeMap.{is_at};
@@ -7,7 +7,8 @@ ghost use Rattle.std.specs.Ordering.{is_lt};
 ghost use Rattle.cov_text.specs.Listing.{text_cmp};
 ghost use Rattle.cov_model.specs.Sums.{file_order, same_key};
 ghost use Rattle.cov_book.specs.Told.{named};
-ghost use Rattle.cov_book.specs.Listed.{bare_key, own_list, all_listed, urls_in, is_front, comes_first, AreInOrder, AreSorted, IsPlace, of_url};
+ghost use Rattle.cov_book.specs.Listed.{bare_key, own_list, all_listed, urls_in, is_front, comes_first, hit, AreInOrder, AreSorted, IsPlace, of_url};
+ghost use Rattle.cov_book.specs.Renewed.{IsFoundAt};
 
 use crate::scripts::{Function, Script};
 use crate::sums::Sums;
@@ -102,8 +103,31 @@ pub fn place_of(functions: &[Function], start: u32, end: u32, name: &str) -> usi
     functions.partition_point(|function| order_of(function, start, end, name).is_lt())
 }
 
+/// Where a function stands among these, if it is there.
+pub fn place_among(functions: &[Function], start: u32, end: u32, name: &str) -> Option<usize>
+    requires { AreInOrder functions.now }
+    ensures { IsFoundAt (named [] start end name.now) functions.now result }
+{
+    let at = place_of(functions, start, end, name);
+    if is_function_at(functions, at, start, end, name) {
+        Some(at)
+    } else {
+        None
+    }
+}
+
+/// Whether the function of this root and name stands at a place.
+pub fn is_function_at(functions: &[Function], at: usize, start: u32, end: u32, name: &str) -> bool
+    ensures { result ≡ is_some (hit (named [] start end name.now) (slice_get functions.now at)) }
+{
+    let Some(there) = functions.get(at) else {
+        return false;
+    };
+    is_function(there, start, end, name)
+}
+
 /// Whether a function has this root and name.
-pub fn is_function(function: &Function, start: u32, end: u32, name: &str) -> bool
+fn is_function(function: &Function, start: u32, end: u32, name: &str) -> bool
     ensures { result ≡ same_key (named [] start end name.now) (bare_key function.now) }
 {
     start == function.start && end == function.end && name == function.name.as_text()

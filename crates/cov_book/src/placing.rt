@@ -9,94 +9,138 @@ ghost use Rattle.std.specs.Vec.{vec_len, vec_capacity};
 ghost use Rattle.cov_text.specs.Listing.{inserted, same_text, text_cmp};
 ghost use Rattle.cov_model.specs.declared.sums.Key.{Key};
 ghost use Rattle.cov_model.specs.Sums.{file_order};
-ghost use Rattle.cov_book.specs.Listed.{held_in, listed, of_url, own_list, urls_in, AreInOrder, AreSorted};
-ghost use Rattle.cov_book.specs.Room.{HasRoom, IsPutIn};
+ghost use Rattle.cov_book.specs.Listed.{held_in, of_url, own_list, urls_in, AreInOrder, AreSorted};
+ghost use Rattle.cov_book.specs.Renewed.{AreChanged, changed_script, changed_scripts, changed_urls, made};
+ghost use Rattle.cov_book.specs.Room.{HasRoom, IfNot, IsPutIn, changes_in};
 ghost use Rattle.cov_book.specs.Joining.{by_lasts, last_of, IsTaken};
 
+use crate::changed::{FunctionChanges, ScriptChange, renew};
 use crate::looking::{functions_of, order_of, place_of_url};
 use crate::scripts::{Function, Script, is_script_at, set_functions, take_functions};
+use cov_model::Items;
 use std::alloc::{AllocError, Global};
 use std::cmp::Ordering;
 
-/// A script to put in place, and room for the functions that it then has.
+/// A change to put in place, and room for the functions that the script then has, where some of
+/// them aren't held.
 #[derive(Drop)]
 pub struct Update {
-    pub script: Script,
+    pub change: ScriptChange,
     pub room: Vec<Function>,
 }
 
-/// Puts changed scripts in place: each of their functions in the place of the one of the same root
-/// and name, if there is one. Without memory nothing changes.
-pub fn put(alloc: Global, scripts: &mut Vec<Script>, changed: Vec<Script>) -> Result<(), AllocError>
+/// Puts changes in place. Without memory nothing changes.
+pub fn put(
+    alloc: Global,
+    scripts: &mut Vec<Script>,
+    changed: Vec<ScriptChange>,
+) -> Result<(), AllocError>
     requires order { AreSorted scripts.now.items }
-    requires changed { AreSorted changed.items }
+    requires changed { AreChanged changed.items }
     ensures order { OnOk result (AreSorted scripts.new.items) }
     ensures held { OnOk result ((key : Key) → held_in scripts.new.items key
-        ≡ option_or (held_in changed.items key) (held_in scripts.old.items key)) }
+        ≡ option_or (held_in (changed_scripts scripts.old.items changed.items) key) (held_in
+        scripts.old.items key)) }
     ensures urls { OnOk result (urls_in scripts.new.items
-        ≡ inserted text_cmp (urls_in scripts.old.items) (urls_in changed.items)) }
+        ≡ inserted text_cmp (urls_in scripts.old.items) (changed_urls changed.items)) }
     ensures err { OnErr result (scripts.new.items ≡ scripts.old.items) }
 {
     let updates = updates_of(alloc, scripts, changed)?;
     scripts.reserve(updates.len())?;
     for update in updates {
-        put_script(alloc, scripts, update);
+        put_change(alloc, scripts, update);
     }
     Ok(())
 }
 
-/// The scripts, each with room for its functions and those held.
+/// The changes, each with room.
 fn updates_of(
     alloc: Global,
     scripts: &[Script],
-    changed: Vec<Script>,
+    changed: Vec<ScriptChange>,
 ) -> Result<Vec<Update>, AllocError>
     requires { AreSorted scripts.now }
-    ensures scripts { IfOk result (λ updates. map (λ u. u.script) updates.items ≡ changed.items) }
+    ensures changes { IfOk result (λ updates. changes_in updates.items ≡ changed.items) }
     ensures room { IfOk result (λ updates. AllByRecursion (HasRoom scripts.now) updates.items) }
 {
     let mut updates = Vec::new(alloc);
-    for script in changed {
-        let room = room_for(alloc, scripts, &script)?;
-        updates.push(Update { script, room })?;
+    for change in changed {
+        let room = room_for(alloc, scripts, &change)?;
+        updates.push(Update { change, room })?;
     }
     Ok(updates)
 }
 
-/// Room for the functions of a script and those held of its url.
-fn room_for(alloc: Global, scripts: &[Script], script: &Script) -> Result<Vec<Function>, AllocError>
+/// Room for the functions of a script with those that a change puts in, if there are any.
+fn room_for(
+    alloc: Global,
+    scripts: &[Script],
+    change: &ScriptChange,
+) -> Result<Vec<Function>, AllocError>
     requires { AreSorted scripts.now }
-    ensures room { IfOk result (λ room. length (of_url script.now.url scripts.now)
-        + length script.now.functions ≤ vec_capacity room) }
+    ensures room { IfOk result (λ room. IfNot (change.now.functions.fresh.items ≡ []) (length
+        (of_url change.now.url scripts.now) + length change.now.functions.fresh.items
+        ≤ vec_capacity room)) }
     ensures empty { IfOk result (λ room. room.items ≡ []) }
     ensures len { IfOk result (λ room. vec_len room ≡ 0) }
 {
-    let held = functions_of(scripts, script.url.as_text());
-    let Some(count) = held.len().checked_add(script.functions.len()) else {
+    if change.functions.fresh.is_empty() {
+        return Ok(Vec::new(alloc));
+    }
+    let held = functions_of(scripts, change.url.as_text());
+    let Some(count) = held.len().checked_add(change.functions.fresh.len()) else {
         return Err(AllocError);
     };
     Vec::with_capacity(alloc, count)
 }
 
-/// Puts a script in place. It takes no memory.
-fn put_script(alloc: Global, scripts: &mut Vec<Script>, update: Update)
+/// Puts a change in place. It takes no memory.
+fn put_change(alloc: Global, scripts: &mut Vec<Script>, update: Update)
     requires order { AreSorted scripts.now.items }
-    requires functions { AreInOrder update.script.functions }
+    requires fresh { AreInOrder update.change.functions.fresh.items }
     requires room { HasRoom scripts.now.items update }
     requires place { vec_len scripts.now < vec_capacity scripts.now }
-    ensures put { IsPutIn update.script scripts.old.items scripts.new.items }
+    ensures put { IsPutIn (changed_script scripts.old.items update.change) scripts.old.items
+        scripts.new.items }
     ensures len { vec_len scripts.new ≤ vec_len scripts.old + 1 }
     ensures capacity { vec_capacity scripts.old ≤ vec_capacity scripts.new }
 {
-    let Update { script, room } = update;
-    let at = place_of_url(scripts, script.url.as_text());
-    if is_script_at(scripts, at, &script.url) {
+    let Update { change, room } = update;
+    let ScriptChange { url, functions } = change;
+    let at = place_of_url(scripts, url.as_text());
+    if is_script_at(scripts, at, &url) {
         let held = take_functions(alloc, scripts, at);
-        let functions = joined(room, held, script.functions.into_vec());
+        let functions = functions_with(room, held, functions);
         set_functions(scripts, at, functions);
     } else {
-        let _ = scripts.insert(at, script);
+        let functions = Items::from_vec(functions.fresh);
+        let _ = scripts.insert(at, Script { url, functions });
     }
+}
+
+/// The functions of a script with what is changed of them. It takes no memory.
+fn functions_with(
+    room: Vec<Function>,
+    held: Vec<Function>,
+    changes: FunctionChanges,
+) -> Vec<Function>
+    requires empty { room.items ≡ [] }
+    requires len { vec_len room ≡ 0 }
+    requires room { IfNot (changes.fresh.items ≡ []) (length held.items
+        + length changes.fresh.items ≤ vec_capacity room) }
+    requires held { AreInOrder held.items }
+    requires fresh { AreInOrder changes.fresh.items }
+    ensures order { AreInOrder result.items }
+    ensures found { (url : List ℕ) (key : Key) → lookup (is_at (file_order key)) (own_list url
+        result.items) ≡ lookup (is_at (file_order key)) (own_list url (made held.items changes)) }
+{
+    let FunctionChanges { again, fresh } = changes;
+    let mut functions = held;
+    renew(&mut functions, again);
+    if fresh.is_empty() {
+        return functions;
+    }
+    joined(room, fresh, functions)
 }
 
 /// Functions with others put in, each in the place of the one of the same root and name, if there

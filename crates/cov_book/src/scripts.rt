@@ -8,7 +8,7 @@ ghost use Rattle.std.specs.BTreeMap.{insert_entry};
 ghost use Rattle.cov_model.specs.Sums.{file_order};
 ghost use Rattle.cov_book.specs.Listed.{bare, bare_key, hit, is_there, of_url, urls_in, AreInOrder, AreSorted};
 
-use crate::looking::{is_function, place_of, place_of_url};
+use crate::looking::{is_function_at, place_of};
 use crate::sums::Sums;
 use cov_model::{Items, Text};
 use std::alloc::{AllocError, Global};
@@ -40,54 +40,14 @@ pub fn put_function(functions: &mut Vec<Function>, function: Function) -> Result
     ensures len { vec_len functions.new ≤ vec_len functions.old + 1 }
     ensures capacity { vec_capacity functions.old ≤ vec_capacity functions.new }
 {
-    let at = place_of(
-        functions,
-        function.start,
-        function.end,
-        function.name.as_text(),
-    );
-    if is_at(functions, at, &function) {
+    let (start, end, name) = (function.start, function.end, function.name.as_text());
+    let at = place_of(functions, start, end, name);
+    if is_function_at(functions, at, start, end, name) {
         functions[at] = function;
         return Ok(());
     }
     functions.insert(at, function)?;
     Ok(())
-}
-
-/// Whether the function of the same root and name stands at a place.
-fn is_at(functions: &[Function], at: usize, function: &Function) -> bool
-    ensures { result ≡ is_some (hit (bare_key function.now) (slice_get functions.now at)) }
-{
-    let Some(there) = functions.get(at) else {
-        return false;
-    };
-    is_function(there, function.start, function.end, function.name.as_text())
-}
-
-/// Where the script of a url stands. It is put in, with no function, where it isn't there.
-pub fn place_of_script(
-    alloc: Global,
-    scripts: &mut Vec<Script>,
-    url: &Text,
-) -> Result<usize, AllocError>
-    requires { AreSorted scripts.now.items }
-    ensures order { OnOk result (AreSorted scripts.new.items) }
-    ensures place { IfOk result (λ at. at < vec_len scripts.new) }
-    ensures script { IfOk result (λ at. slice_get scripts.new.items at
-        ≡ Some (record { url = url.now; functions = of_url url.now scripts.old.items })) }
-    ensures same { OnOk result ((u : List ℕ)
-        → of_url u scripts.new.items ≡ of_url u scripts.old.items) }
-    ensures urls { OnOk result (urls_in scripts.new.items
-        ≡ insert_key text_cmp (urls_in scripts.old.items) url.now) }
-{
-    let at = place_of_url(scripts, url.as_text());
-    if is_script_at(scripts, at, url) {
-        return Ok(at);
-    }
-    let url = url.clone()?;
-    let functions = Items::new(alloc);
-    scripts.insert(at, Script { url, functions })?;
-    Ok(at)
 }
 
 /// Whether the script of a url stands at a place.

@@ -2,6 +2,7 @@ use Rattle.std.proofs.Common.{◌≤◌, ◌+◌, ◌∷◌, sym, ap, ◌∙◌,
 use Rattle.std.specs.Prelude.{sum_by}
 use Rattle.std.proofs.lemmas.List.{drop_more, drop_all}
 use Rattle.cov_book.specs.Spent.{for_reports, own_runs, runs_at}
+use Rattle.cov_book.specs.Renewed.{made}
 use Rattle.cov_book.specs.Prepared.{with_report, with_reports}
 use Rattle.cov_book.specs.Least.{IsLeastSoFar}
 use Rattle.cov_book.specs.Listed.{own_list}
@@ -47,7 +48,7 @@ returns-clause-sums g c = λ all functions knows before.
     let url = c.args.url.now in
     let so_far = c.loop-report.invariant.sums all functions knows before in
     let done = drop_all c.loop-report.report-index items (omega (arith, c.loop-report-test.false)) in
-    subst (λ now. IsLeastSoFar now functions (own_list url c.loop-report.changed.items) c.loop-report.past)
+    subst (λ now. IsLeastSoFar now functions (own_list url (made c.args.held.now c.loop-report.changes)) c.loop-report.past)
     (sym (ap (with_reports so_far.0 url) done) ∙ so_far.2) so_far.1
 
 pub returns-clause-grows : goal.returns-clause-grows

@@ -1,8 +1,8 @@
-use Rattle.std.proofs.Common.{◌≤◌, ◌+◌, ◌∷◌, [], refl, sym, ap, ◌∙◌, subst, drop, arith}
+use Rattle.std.proofs.Common.{◌+◌, ◌∷◌, refl, sym, ap, ◌∙◌, subst, drop, arith}
 use Rattle.std.specs.Prelude.{None}
 use Rattle.std.proofs.lemmas.List.{drop_more, drop_all}
 use Rattle.cov_text.specs.Listing.{inserted, text_cmp}
-use Rattle.cov_book.specs.Listed.{AreSorted, all_listed, held_in, urls_in}
+use Rattle.cov_book.specs.Listed.{all_listed, held_in}
 use Rattle.cov_book.specs.Spent.{for_entries, own_all, runs_at}
 use Rattle.cov_book.specs.Prepared.{with_reports, with_entries}
 use Rattle.cov_book.specs.Least.{IsLeastSoFar, IsLeastPast}
@@ -10,7 +10,8 @@ use Rattle.cov_book.specs.Urls.{urls_of}
 use Rattle.cov_book.specs.Weights.{entries_in, entry_of}
 use Rattle.cov_book.proofs.Candidate.{least-start, least-done}
 use Rattle.cov_book.proofs.Placed.{least-prepared}
-use Rattle.cov_book.proofs.Among.{none-sorted}
+use Rattle.cov_book.specs.Renewed.{AreChanged, changed_scripts, changed_urls}
+use Rattle.cov_book.proofs.Renewing.{none-changed}
 use Rattle.cov_model.specs.Nesting.{AreReportsNested}
 use Rattle.cov_book.proofs.Nested.{All-at}
 use Rattle.cov_book.proofs.Costs.{script-grows, script-within, script-cost}
@@ -20,11 +21,11 @@ pub loop-part-init : goal.loop-part-init
 loop-part-init g c =
     let none = c.new-changed.ensures.items in
     record {
-      order = subst AreSorted (sym none) none-sorted;
-      urls = ap (λ ss. inserted text_cmp (urls_in ss) (urls_of (entries_in c.args.parts.now))) none;
+      order = subst AreChanged (sym none) none-changed;
+      urls = ap (λ ss. inserted text_cmp (changed_urls ss) (urls_of (entries_in c.args.parts.now))) none;
       sums = (
         all_listed c.args.scripts.now,
-        subst (λ ss. IsLeastSoFar (all_listed c.args.scripts.now) (held_in c.args.scripts.now) (all_listed ss) None) (sym none) (least-start (all_listed c.args.scripts.now) c.requires.kept),
+        subst (λ ss. IsLeastSoFar (all_listed c.args.scripts.now) (held_in c.args.scripts.now) (all_listed (changed_scripts c.args.scripts.now ss)) None) (sym none) (least-start (all_listed c.args.scripts.now) c.requires.kept),
         refl,
         λ past key. omega arith,
       );
@@ -53,7 +54,7 @@ loop-part-preserved g c =
     let now = with_reports so_far.0 entry.url entry.functions in
     record {
       order = next.order;
-      urls = ap (λ us. inserted text_cmp us (urls_of rest)) next.urls ∙ sym (ap (λ es. inserted text_cmp (urls_in c.loop-part.changed.items) (urls_of es)) more) ∙ inv.urls;
+      urls = ap (λ us. inserted text_cmp us (urls_of rest)) next.urls ∙ sym (ap (λ es. inserted text_cmp (changed_urls c.loop-part.changed.items) (urls_of es)) more) ∙ inv.urls;
       sums = (
         now,
         next.sums so_far.0 so_far.1,
@@ -71,22 +72,22 @@ pub returns-clause-urls : goal.returns-clause-urls
 returns-clause-urls g c =
     let done = ap entries_in (drop_all c.loop-part.part-index c.args.parts.now (omega (arith, c.loop-part-test.false))) in
     let inv = c.loop-part.invariant in
-    sym (ap (λ es. inserted text_cmp (urls_in c.loop-part.changed.items) (urls_of es)) done) ∙ inv.urls
+    sym (ap (λ es. inserted text_cmp (changed_urls c.loop-part.changed.items) (urls_of es)) done) ∙ inv.urls
 
 pub returns-clause-sums : goal.returns-clause-sums
 returns-clause-sums g c = λ none.
     let now = c.loop-part.invariant.sums in
     let done = ap entries_in (drop_all c.loop-part.part-index c.args.parts.now (omega (arith, c.loop-part-test.false))) in
     let all = sym (ap (with_entries now.0) done) ∙ now.2 in
-    least-prepared (all_listed c.args.scripts.now) (entries_in c.args.parts.now) (held_in c.args.scripts.now) (all_listed c.loop-part.changed.items) c.loop-part.past c.requires.kept.sorted none
-    (subst (λ es. IsLeastSoFar es (held_in c.args.scripts.now) (all_listed c.loop-part.changed.items) c.loop-part.past) all now.1)
+    least-prepared (all_listed c.args.scripts.now) (entries_in c.args.parts.now) (held_in c.args.scripts.now) (all_listed (changed_scripts c.args.scripts.now c.loop-part.changed.items)) c.loop-part.past c.requires.kept.sorted none
+    (subst (λ es. IsLeastSoFar es (held_in c.args.scripts.now) (all_listed (changed_scripts c.args.scripts.now c.loop-part.changed.items)) c.loop-part.past) all now.1)
 
 pub returns-clause-past : goal.returns-clause-past
 returns-clause-past g c =
     let now = c.loop-part.invariant.sums in
     let done = ap entries_in (drop_all c.loop-part.part-index c.args.parts.now (omega (arith, c.loop-part-test.false))) in
     let all = sym (ap (with_entries now.0) done) ∙ now.2 in
-    subst (λ es. IsLeastPast es c.loop-part.past) all (least-done now.0 (held_in c.args.scripts.now) (all_listed c.loop-part.changed.items) c.loop-part.past now.1)
+    subst (λ es. IsLeastPast es c.loop-part.past) all (least-done now.0 (held_in c.args.scripts.now) (all_listed (changed_scripts c.args.scripts.now c.loop-part.changed.items)) c.loop-part.past now.1)
 
 pub returns-clause-cost : goal.returns-clause-cost
 returns-clause-cost g c = λ none bound within.

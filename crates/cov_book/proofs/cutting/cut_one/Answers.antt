@@ -1,7 +1,5 @@
-use Rattle.std.proofs.Common.{◌≡◌, List, [], ◌∷◌, ◌++◌, ◌+◌, refl, sym, ap, ◌∙◌, subst, drop, arith}
+use Rattle.std.proofs.Common.{◌≡◌, [], ◌∷◌, ◌++◌, ◌+◌, refl, sym, ap, ◌∙◌, subst, drop, arith}
 use Rattle.std.proofs.lemmas.List.{drop_more, drop_all}
-use Rattle.cov_model.specs.declared.snapshot.Entry.{Entry}
-use Rattle.cov_book.specs.declared.cutting.Part.{Part}
 use Rattle.cov_book.specs.Weights.{entries_in, entry_of, AreAlike}
 use Rattle.cov_book.proofs.Weighed.{alike-cut, alike-itself, alike-then, parts-push, script}
 use Rattle.cov_book.proofs.cutting.cut_one.Goals as goal

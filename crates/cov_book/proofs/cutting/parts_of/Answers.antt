@@ -1,6 +1,6 @@
 use Rattle.std.proofs.Common.{sym}
-use Rattle.std.proofs.Common.{ap, ◌∙◌}
-use Rattle.cov_book.specs.Weights.{entries_in, AreAlike}
+use Rattle.std.proofs.Common.{ap}
+use Rattle.cov_book.specs.Weights.{entries_in}
 use Rattle.cov_book.proofs.Weighed.{alike-itself, alike-sorted, alike-then}
 use Rattle.cov_book.proofs.cutting.parts_of.Goals as goal
 

@@ -6,17 +6,17 @@ use Rattle.std.specs.Vec.Iter.{into_iter_items, into_iter_len}
 use Rattle.cov_text.specs.Listing.{inserted, text_cmp}
 use Rattle.cov_model.specs.declared.sums.Key.{Key}
 use Rattle.cov_book.specs.Listed.{AreSorted, held_in, urls_in}
-use Rattle.cov_book.specs.Room.{HasRoom}
-use Rattle.cov_book.proofs.Among.{scripts_in}
+use Rattle.cov_book.specs.Room.{HasRoom, changes_in}
+use Rattle.cov_book.specs.Renewed.{AreChanged, changed_scripts, changed_urls}
 use Rattle.cov_book.proofs.placing.put.Given as goal
 
 -- what is left, put into what there is, gives what all do
 abbrev pub invariant-loop-update : goal.invariant-loop-update
 invariant-loop-update l = record {
   order : AreSorted l.scripts.items;
-  left : AreSorted (scripts_in (into_iter_items l.update-iterator));
-  held : (key : Key) → option_or (held_in (scripts_in (into_iter_items l.update-iterator)) key) (held_in l.scripts.items key) ≡ option_or (held_in l.fn.changed.items key) (held_in l.initial.scripts.items key);
-  urls : inserted text_cmp (urls_in l.scripts.items) (urls_in (scripts_in (into_iter_items l.update-iterator))) ≡ inserted text_cmp (urls_in l.initial.scripts.items) (urls_in l.fn.changed.items);
+  left : AreChanged (changes_in (into_iter_items l.update-iterator));
+  held : (key : Key) → option_or (held_in (changed_scripts l.scripts.items (changes_in (into_iter_items l.update-iterator))) key) (held_in l.scripts.items key) ≡ option_or (held_in (changed_scripts l.initial.scripts.items l.fn.changed.items) key) (held_in l.initial.scripts.items key);
+  urls : inserted text_cmp (urls_in l.scripts.items) (changed_urls (changes_in (into_iter_items l.update-iterator))) ≡ inserted text_cmp (urls_in l.initial.scripts.items) (changed_urls l.fn.changed.items);
   room : AllByRecursion (HasRoom l.scripts.items) (into_iter_items l.update-iterator);
   place : vec_len l.scripts + into_iter_len l.update-iterator ≤ vec_capacity l.scripts;
   count : into_iter_len l.update-iterator ≡ length (into_iter_items l.update-iterator);

@@ -1,43 +1,43 @@
-use Rattle.std.proofs.Common.{◌≡◌, ◌++◌, map, length, sym, ap, ◌∙◌, subst, arith, rules}
+use Rattle.std.proofs.Common.{◌≡◌, ◌++◌, length, sym, ap, ◌∙◌, subst, arith, rules}
 use Rattle.std.specs.List.{AllByRecursion}
 use Rattle.std.specs.Vec.{vec_len}
 use Rattle.std.specs.Vec.Iter.{into_iter_items}
 use Rattle.std.proofs.lemmas.List.{append-nil}
 use Rattle.cov_book.specs.declared.placing.Update.{Update}
-use Rattle.cov_book.specs.Room.{HasRoom}
+use Rattle.cov_book.specs.Room.{HasRoom, changes_in}
 use Rattle.cov_book.proofs.Nested.{All-push}
-use Rattle.cov_book.proofs.Placed.{none-left, scripts-push}
+use Rattle.cov_book.proofs.Placed.{none-left, changes-push}
 use Rattle.cov_book.proofs.placing.updates_of.Goals as goal
 
-pub loop-script-init : goal.loop-script-init
-loop-script-init c =
-    let gives = c.into_iter-script-iterator.ensures.into_iter_gives in
+pub loop-change-init : goal.loop-change-init
+loop-change-init c =
+    let gives = c.into_iter-change-iterator.ensures.into_iter_gives in
     let whole : vec_len c.args.changed ≡ length c.args.changed.items = search rules in
     record {
-      made = ap (λ us. map (λ (u : Update). u.script) us ++ into_iter_items c.into_iter-script-iterator.result) c.new-updates.ensures.items ∙ gives.0;
+      made = ap (λ us. changes_in us ++ into_iter_items c.into_iter-change-iterator.result) c.new-updates.ensures.items ∙ gives.0;
       room = subst (AllByRecursion (HasRoom c.args.scripts.now)) (sym c.new-updates.ensures.items) tt;
       count = gives.1 ∙ whole ∙ ap length (sym gives.0);
     }
 
-pub loop-script-preserved : goal.loop-script-preserved
-loop-script-preserved c =
-    let inv = c.loop-script.invariant in
+pub loop-change-preserved : goal.loop-change-preserved
+loop-change-preserved c =
+    let inv = c.loop-change.invariant in
     let steps = c.in-Some.ensures.steps in
-    let u : Update = record { script = c.in-Some.script; room = c.in_ok-room.room } in
+    let u : Update = record { change = c.in-Some.change; room = c.in_ok-room.room } in
     let pushed = c.in_ok-push.ensures.items in
     record {
       made =
-          ap (λ us. map (λ (x : Update). x.script) us ++ into_iter_items c.next.new.self) pushed
-          ∙ scripts-push c.loop-script.updates.items u (into_iter_items c.next.new.self)
-          ∙ ap (λ ss. map (λ (x : Update). x.script) c.loop-script.updates.items ++ ss) (sym steps.0)
+          ap (λ us. changes_in us ++ into_iter_items c.next.new.self) pushed
+          ∙ changes-push c.loop-change.updates.items u (into_iter_items c.next.new.self)
+          ∙ ap (λ ss. changes_in c.loop-change.updates.items ++ ss) (sym steps.0)
           ∙ inv.made;
       room = subst (AllByRecursion (HasRoom c.args.scripts.now)) (sym pushed)
-          (All-push (HasRoom c.args.scripts.now) c.loop-script.updates.items u inv.room (record { empty = c.in_ok-room.ensures.empty; len = c.in_ok-room.ensures.len; room = c.in_ok-room.ensures.room }));
+          (All-push (HasRoom c.args.scripts.now) c.loop-change.updates.items u inv.room (record { empty = c.in_ok-room.ensures.empty; len = c.in_ok-room.ensures.len; room = c.in_ok-room.ensures.room }));
       count = let more = ap length steps.0 in omega (arith, steps.1, inv.count, more);
     }
 
-pub returns-clause-scripts : goal.returns-clause-scripts
-returns-clause-scripts c =
-    let inv = c.loop-script.invariant in
-    let none = none-left (into_iter_items c.loop-script.script-iterator) (let len = c.in-None.ensures.steps.0 in omega (arith, len, inv.count)) in
-    sym (append-nil _) ∙ ap (λ ss. map (λ (u : Update). u.script) c.loop-script.updates.items ++ ss) (sym none) ∙ inv.made
+pub returns-clause-changes : goal.returns-clause-changes
+returns-clause-changes c =
+    let inv = c.loop-change.invariant in
+    let none = none-left (into_iter_items c.loop-change.change-iterator) (let len = c.in-None.ensures.steps.0 in omega (arith, len, inv.count)) in
+    sym (append-nil _) ∙ ap (λ ss. changes_in c.loop-change.updates.items ++ ss) (sym none) ∙ inv.made
