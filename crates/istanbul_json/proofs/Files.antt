@@ -80,7 +80,7 @@ paths-in-order files s t es r is step order so_far =
 
 -- ---- what holds of a file
 
-kept-by_key : {A : Type 0} (key : A → List ℕ) (xs ys : List A) → xs ≡ by_key key ys → by_key key xs ≡ xs
+pub kept-by_key : {A : Type 0} (key : A → List ℕ) (xs ys : List A) → xs ≡ by_key key ys → by_key key xs ≡ xs
 kept-by_key key xs ys e = ap (by_key key) e ∙ by_key-twice key ys ∙ sym e
 
 abbrev has_all_counts : Branch → Bool

@@ -13,7 +13,7 @@ use Rattle.std.proofs.lemmas.List.Sorted.{ranks_by}
 use Rattle.cov_text.specs.Listing.{inserted, in_order}
 use Rattle.istanbul_json.proofs.Sorted as sorted
 
-by_order : {P : Type 0} (o : Ordering) → (o ≡ Less → P) → (o ≡ Equal → P) → (o ≡ Greater → P) → P
+pub by_order : {P : Type 0} (o : Ordering) → (o ≡ Less → P) → (o ≡ Equal → P) → (o ≡ Greater → P) → P
 by_order Less a b c = a refl
 by_order Equal a b c = b refl
 by_order Greater a b c = c refl
@@ -90,7 +90,7 @@ module _ {A : Type 0} (cmp : A → A → Ordering) (total : IsTotalOrder cmp) wh
   one_rank : (z x y : A) → ties less z x ≡ true → ties less z y ≡ true → is_eq (cmp x y) ≡ true
   one_rank z x y e f = ap is_eq (sym (total.congr z x y (tie_is z x e)) ∙ tie_is z y f)
 
-  none_pass : (z x : A) (ys : List A) → ties less z x ≡ true → ApartFrom x ys → filter (ties less z) ys ≡ []
+  pub none_pass : (z x : A) (ys : List A) → ties less z x ≡ true → ApartFrom x ys → filter (ties less z) ys ≡ []
   none_pass z x [] e h = refl
   none_pass z x (y ∷ ys) e h =
       let none = none_pass z x ys e h.1 in
@@ -209,7 +209,7 @@ module _ {A : Type 0} (cmp : A → A → Ordering) (total : IsTotalOrder cmp) wh
   apart-strict (x ∷ xs) h = (all-map (λ y e. ap is_eq e) xs h.0, apart-strict xs h.1)
 
   -- placed by this order itself
-  strict-placed : (xs : List A) → AreApart xs → IsStrict (placed cmp xs)
+  pub strict-placed : (xs : List A) → AreApart xs → IsStrict (placed cmp xs)
   strict-placed [] h = tt
   strict-placed (x ∷ xs) h =
       subst IsStrict (sym (same-place cmp (λ x y e. e) x (placed cmp xs) (all-placed cmp _ xs h.0))) (strict-insert x (placed cmp xs) (strict-placed xs h.1))
@@ -220,7 +220,7 @@ module _ {A : Type 0} (cmp : A → A → Ordering) (total : IsTotalOrder cmp) wh
       let up : less y x ≡ false = ap is_lt (total.antisymm y x ∙ ap ordering_reverse h.0) in
       ap (λ t. not t && list_all (λ w. not (less w x)) ys) up ∙ none-less x ys h.1
 
-  rising-strict : (xs : List A) → IsStrict xs → sorted.Rising less ranks xs
+  pub rising-strict : (xs : List A) → IsStrict xs → sorted.Rising less ranks xs
   rising-strict [] h = tt
   rising-strict (x ∷ xs) h = (none-less x xs h.0, rising-strict xs h.1)
 

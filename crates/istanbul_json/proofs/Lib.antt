@@ -7,3 +7,8 @@ pub mod Files
 pub mod Written
 pub mod Shapes
 pub mod ReadBack
+pub mod Ordered
+pub mod Gathered
+pub mod Judged
+pub mod PutIn
+pub mod Listing

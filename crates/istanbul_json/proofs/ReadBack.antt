@@ -31,6 +31,8 @@ use Rattle.istanbul_json.specs.Kept.{by_key}
 use Rattle.istanbul_json.specs.Members.{mark_of, loc_of, function_of, branch_of, path_as}
 use Rattle.istanbul_json.specs.Small.{IsSmall, IsSmallMark, IsSmallLoc, IsSmallFunction, IsSmallBranch, IsReadable}
 use Rattle.istanbul_json.specs.Value.{count_data, mark_data, loc_data, function_data, branch_data, members_by, in_turn, file_data}
+use Rattle.istanbul_json.specs.Walks.{function_entry, branch_entry}
+use Rattle.istanbul_json.proofs.Judged.{judged, judged-is, has_all_counts, text-same}
 use Rattle.istanbul_json.proofs.Inserted.{placed, all-placed, all-map, strict-in_order, IsStrict, list_all-placed}
 use Rattle.istanbul_json.proofs.KeyOrder.{bytes_cmp, by_key-placed, text-total, same-key}
 
@@ -67,12 +69,6 @@ locs-back (l ∷ ls) h = rw (loc-back l h.0, locs-back ls h.1)
 counts-back : (ns : List ℕ) → each_of whole (array_of count_data ns) ≡ Some ns
 counts-back [] = refl
 counts-back (n ∷ ns) = rw (counts-back ns)
-
-abbrev function_entry : Function → FunctionEntry
-function_entry f = record { name = f.name; decl = f.decl; loc = f.loc; line = f.line }
-
-abbrev branch_entry : Branch → BranchEntry
-branch_entry b = record { kind = b.kind; loc = b.loc; locations = b.locations; line = b.line }
 
 function-back : (f : Function) → IsSmallFunction f → function_of (function_data f) ≡ Some (function_entry f)
 function-back f h = by f.line h.2
@@ -119,52 +115,10 @@ every : {A : Type 0} (P : A → Type 0) → ((x : A) → P x) → (xs : List A) 
 every P each [] = tt
 every P each (x ∷ xs) = (each x, every P each xs)
 
--- ---- keys and numbers
-
-text-same : (a : List ℕ) → same_text a a ≡ true
-text-same a = sym (is_eq-slice_cmp a a) ∙ ap is_eq (tied_itself nat_list_cmp_total a)
-
-keys-same : {A C D : Type 0} (key : A → List ℕ) (f : A → C) (g : A → D) (xs : List A) → same_keys (map (λ x. (key x, f x)) xs) (map (λ x. (key x, g x)) xs) ≡ true
-keys-same key f g [] = refl
-keys-same key f g (x ∷ xs) = ap (λ t. t && same_keys (map (λ x. (key x, f x)) xs) (map (λ x. (key x, g x)) xs)) (text-same (key x)) ∙ keys-same key f g xs
-
-abbrev has_all_counts : Branch → Bool
-has_all_counts b = length b.counts == length b.locations
-
-both-parts : (a b : Bool) → (a && b) ≡ true → (a ≡ true) × (b ≡ true)
-both-parts true b e = (refl, e)
-both-parts false b e = cc
-
-as-many : (bs : List Branch) → list_all has_all_counts bs ≡ true → as_many_counts (map (λ b. (b.key, branch_entry b)) bs) (map (λ b. (b.key, b.counts)) bs) ≡ true
-as-many [] h = refl
-as-many (b ∷ bs) h =
-    let parts = both-parts (has_all_counts b) (list_all has_all_counts bs) h in
-    ap (λ t. t && as_many_counts (map (λ c. (c.key, branch_entry c)) bs) (map (λ c. (c.key, c.counts)) bs)) (nat_eq_equiv.symm (length b.locations) (length b.counts) ∙ parts.0) ∙ as-many bs parts.1
-
-statements-made : (xs : List Statement) → map statement (zip (map (λ s. (s.key, s.loc)) xs) (map (λ s. (s.key, s.count)) xs)) ≡ xs
-statements-made [] = refl
-statements-made (x ∷ xs) = ap (λ (l : List Statement). x ∷ l) (statements-made xs)
-
-functions-made : (xs : List Function) → map function (zip (map (λ f. (f.key, function_entry f)) xs) (map (λ f. (f.key, f.count)) xs)) ≡ xs
-functions-made [] = refl
-functions-made (x ∷ xs) = ap (λ (l : List Function). x ∷ l) (functions-made xs)
-
-branches-made : (xs : List Branch) → map branch (zip (map (λ b. (b.key, branch_entry b)) xs) (map (λ b. (b.key, b.counts)) xs)) ≡ xs
-branches-made [] = refl
-branches-made (x ∷ xs) = ap (λ (l : List Branch). x ∷ l) (branches-made xs)
-
 -- ---- a file
 
 abbrev Keyed : Type 0 → Type 0
 Keyed A = List (List ℕ × A)
-
--- what is made of members whose keys and numbers are judged
-abbrev judged : ℕ → List ℕ → Bool → Bool → Bool → List Statement → List Function → List Branch → Result FileParts CoverageFault
-judged k path s_same f_same b_same statements functions branches = do
-  _s ← fault_unless s_same (Keys k S)
-  _f ← fault_unless f_same (Keys k F)
-  _b ← fault_unless b_same (Keys k B)
-  Ok (record { path = path; statements = statements; functions = functions; branches = branches })
 
 abbrev assembled : ℕ → Option (List ℕ) → Option (Keyed Loc) → Option (Keyed FunctionEntry) → Option (Keyed BranchEntry) → Option (Keyed ℕ) → Option (Keyed ℕ) → Option (Keyed (List ℕ)) → Result FileParts CoverageFault
 assembled k p st fn br os of ob = do
@@ -198,16 +152,10 @@ file-back k f h =
     let os = members-back (λ (s : Statement). s.key) (λ s. count_data s.count) whole (λ s. s.count) f.statements (every _ (λ s. refl) f.statements) in
     let of = members-back (λ (g : Function). g.key) (λ g. count_data g.count) whole (λ g. g.count) f.functions (every _ (λ g. refl) f.functions) in
     let ob = members-back (λ (b : Branch). b.key) (λ b. array (array_of count_data b.counts)) (listed whole) (λ b. b.counts) f.branches (every _ (λ b. counts-back b.counts) f.branches) in
-    let s_same = keys-same (λ (s : Statement). s.key) (λ s. s.loc) (λ s. s.count) ss in
-    let f_same = keys-same (λ (g : Function). g.key) function_entry (λ g. g.count) fs in
-    let b_same = keys-same (λ (b : Branch). b.key) branch_entry (λ b. b.counts) bs in
-    let many = as-many bs (list_all-placed (bytes_cmp (λ (b : Branch). b.key)) has_all_counts f.branches h.keyed.counts) in
-    let statements = ap (by_key (λ (s : Statement). s.key)) (statements-made ss) ∙ by_key-placed (λ (s : Statement). s.key) f.statements h.keyed.statements in
-    let functions = ap (by_key (λ (g : Function). g.key)) (functions-made fs) ∙ by_key-placed (λ (g : Function). g.key) f.functions h.keyed.functions in
-    let branches = ap (by_key (λ (b : Branch). b.key)) (branches-made bs) ∙ by_key-placed (λ (b : Branch). b.key) f.branches h.keyed.branches in
     file-assembled k f
     ∙ (λ i. assembled k (path-back f.path i) (st i) (fn i) (br i) (os i) (of i) (ob i))
-    ∙ (λ i. judged k f.path (s_same i) (f_same i) (b_same i && many i) (statements i) (functions i) (branches i))
+    ∙ judged-is k f.path ss f.statements fs f.functions bs f.branches (by_key-placed (λ (s : Statement). s.key) f.statements h.keyed.statements) (by_key-placed (λ (g : Function). g.key) f.functions h.keyed.functions)
+    (by_key-placed (λ (b : Branch). b.key) f.branches h.keyed.branches) (list_all-placed (bytes_cmp (λ (b : Branch). b.key)) has_all_counts f.branches h.keyed.counts)
 
 -- ---- files
 

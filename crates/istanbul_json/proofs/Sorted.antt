@@ -24,7 +24,7 @@ module _ {A : Type 0} (lt : A → A → Bool) (order : IsStrictWeakOrder lt) whe
       let parts = both_true (not (lt a b)) (not (lt b a)) e in
       (not_true (lt a b) parts.0, not_true (lt b a) parts.1)
 
-  ties_when : (a b : A) → lt a b ≡ false → lt b a ≡ false → ties lt a b ≡ true
+  pub ties_when : (a b : A) → lt a b ≡ false → lt b a ≡ false → ties lt a b ≡ true
   ties_when a b e f = λ i. not (e i) && not (f i)
 
   no_tie : (a b : A) → lt a b ≡ true → ties lt a b ≡ false
@@ -33,7 +33,7 @@ module _ {A : Type 0} (lt : A → A → Bool) (order : IsStrictWeakOrder lt) whe
   never_before_itself : (a : A) → lt a a ≡ false
   never_before_itself a = elim (lt a a) as (λ t. lt a a ≡ t → lt a a ≡ false) [ true ↦ λ e. order.one_way a a e | false ↦ λ e. e ] refl
 
-  own_tie : (a : A) → ties lt a a ≡ true
+  pub own_tie : (a : A) → ties lt a a ≡ true
   own_tie a = ties_when a a (never_before_itself a) (never_before_itself a)
 
   -- none of these is less

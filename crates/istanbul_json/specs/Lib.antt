@@ -6,3 +6,4 @@ pub mod Gives
 pub mod Examples
 pub mod Answers
 pub mod Small
+pub mod Walks

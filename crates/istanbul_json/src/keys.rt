@@ -1,8 +1,9 @@
 //! Lists by key: statements, functions and branches, made of an entry of their map and of their counts.
-ghost use Rattle.std.specs.Prelude.{◌≡◌, ℕ, List, map, IfOk, refl};
+ghost use Rattle.std.specs.Prelude.{◌≡◌, ◌==◌, ℕ, Bool, true, List, length, map, IfOk, refl};
 ghost use Rattle.std.specs.List.{zip};
 ghost use Rattle.istanbul_json.specs.Answers.{pairs, texted, AreRising};
 ghost use Rattle.istanbul_json.specs.Coverage as coverage;
+ghost use Rattle.istanbul_json.specs.Walks.{function_entry, branch_entry};
 ghost use Rattle.istanbul_json.specs.Kept.{key_cmp, by_key};
 
 use crate::entry::{BranchEntry, FunctionEntry};
@@ -20,7 +21,13 @@ pub trait Listed: Drop + Sized {
 
     ghost key_of: { Self → List ℕ };
 
+    ghost entry_of: { Self → Self.Entry };
+
+    ghost counts_of: { Self → Self.Counts };
+
     ghost made: { (List ℕ × Self.Entry) × (List ℕ × Self.Counts) → Self };
+
+    ghost fits_of: { Self → Bool };
 
     fn make(key: Text, entry: Self::Entry, counts: Self::Counts) -> Self
         ensures { (other : List ℕ) → result ≡ made ((key, entry), (other, counts)) };
@@ -28,7 +35,15 @@ pub trait Listed: Drop + Sized {
     fn key(&self) -> &Text
         ensures { result.now ≡ key_of self.now };
 
+    /// Whether there are as many counts as the entry wants.
+    fn fits(&self) -> bool
+        ensures { result ≡ fits_of self.now };
+
     ghost keeps_key: { (x : (List ℕ × Self.Entry) × (List ℕ × Self.Counts)) → key_of (made x) ≡ x.0.0 };
+
+    ghost keeps_entry: { (x : (List ℕ × Self.Entry) × (List ℕ × Self.Counts)) → entry_of (made x) ≡ x.0.1 };
+
+    ghost keeps_counts: { (x : (List ℕ × Self.Entry) × (List ℕ × Self.Counts)) → counts_of (made x) ≡ x.1.1 };
 }
 
 impl Listed for Statement {
@@ -42,12 +57,26 @@ impl Listed for Statement {
 
     ghost keeps_key = { λ x. refl };
 
+    ghost entry_of = { λ s. s.loc };
+
+    ghost counts_of = { λ s. s.count };
+
+    ghost keeps_entry = { λ x. refl };
+
+    ghost keeps_counts = { λ x. refl };
+
+    ghost fits_of = { λ s. true };
+
     fn make(key: Text, loc: Loc, count: u64) -> Statement {
         Statement { key, loc, count }
     }
 
     fn key(&self) -> &Text {
         &self.key
+    }
+
+    fn fits(&self) -> bool {
+        true
     }
 }
 
@@ -61,6 +90,16 @@ impl Listed for Function {
     ghost made = { coverage.function };
 
     ghost keeps_key = { λ x. refl };
+
+    ghost entry_of = { function_entry };
+
+    ghost counts_of = { λ f. f.count };
+
+    ghost keeps_entry = { λ x. refl };
+
+    ghost keeps_counts = { λ x. refl };
+
+    ghost fits_of = { λ f. true };
 
     fn make(key: Text, entry: FunctionEntry, count: u64) -> Function {
         let FunctionEntry {
@@ -82,6 +121,10 @@ impl Listed for Function {
     fn key(&self) -> &Text {
         &self.key
     }
+
+    fn fits(&self) -> bool {
+        true
+    }
 }
 
 impl Listed for Branch {
@@ -94,6 +137,16 @@ impl Listed for Branch {
     ghost made = { coverage.branch };
 
     ghost keeps_key = { λ x. refl };
+
+    ghost entry_of = { branch_entry };
+
+    ghost counts_of = { λ b. b.counts };
+
+    ghost keeps_entry = { λ x. refl };
+
+    ghost keeps_counts = { λ x. refl };
+
+    ghost fits_of = { λ b. length b.counts == length b.locations };
 
     fn make(key: Text, entry: BranchEntry, counts: Items<u64>) -> Branch {
         let BranchEntry {
@@ -114,6 +167,10 @@ impl Listed for Branch {
 
     fn key(&self) -> &Text {
         &self.key
+    }
+
+    fn fits(&self) -> bool {
+        self.counts.len() == self.locations.len()
     }
 }
 
@@ -152,7 +209,7 @@ pub fn as_many_counts(branches: &[(&str, BranchEntry)], counts: &[(&str, Items<u
 }
 
 /// Shorter keys first, and equally long ones in byte order.
-fn key_order(a: &Text, b: &Text) -> Ordering
+pub fn key_order(a: &Text, b: &Text) -> Ordering
     ensures { result ≡ key_cmp a.now b.now }
 {
     let (a, b) = (a.as_text(), b.as_text());

@@ -3,10 +3,15 @@
 
 ghost use Rattle.istanbul_json.specs.Examples.{TextOfTwoLines, ReadsBack, WithoutAMember, KeysInOrder, FaultsInOrder};
 
+mod entries;
 mod entry;
 mod file;
+mod found;
+mod joining;
 mod keys;
+mod marks;
 mod members;
+mod quick;
 mod reading;
 #[cfg(test)]
 mod tests;

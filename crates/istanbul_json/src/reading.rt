@@ -13,6 +13,7 @@ ghost use Rattle.istanbul_json.specs.Members.{path_as};
 use crate::entry::{BranchEntry, FunctionEntry};
 use crate::keys::{as_many_counts, in_key_order, same_keys};
 use crate::members::keyed_member;
+use crate::quick::quick_coverage;
 use crate::{CoverageFault, CoverageField, FileCoverage, FileParts, Loc};
 use cov_text::{Items, MAX_TEXT, Text};
 use json_shapes::{ParseFault, parse};
@@ -31,6 +32,9 @@ pub fn read_coverage(alloc: Global, bytes: &[u8]) -> Result<Items<FileCoverage>,
     ensures reading { GivesCoverage result (coverage.coverage_reading bytes.now) }
     ensures in_order { IfOk result ArePathsInOrder }
 {
+    if let Some(files) = quick_coverage(alloc, bytes) {
+        return Ok(files);
+    }
     if bytes.len() > MAX_TEXT {
         return Err(CoverageFault::TooLong);
     }

@@ -1,0 +1,9 @@
+use Rattle.serde_json.specs.Data.{object}
+use Rattle.json_walk.proofs.Reading.{if_some_weaker}
+use Rattle.istanbul_json.proofs.Gathered.{function_is}
+use Rattle.istanbul_json.proofs.entries.FunctionEntryListed.read.Goals as goal
+
+pub returns-clause-ok : goal.returns-clause-ok
+returns-clause-ok c =
+    let read = c.in_ok-found.ensures.ok in
+    if_some_weaker c.function_in.result (λ x is. (object read.0, read.1, function_is read.0 c.in_ok-found.found x read.2 is)) c.function_in.ensures
