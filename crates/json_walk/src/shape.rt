@@ -1,5 +1,5 @@
 //! Values, lists and objects, whatever their items and members are read as.
-ghost use Rattle.std.specs.Prelude.{◌<◌, ◌≤◌, length, IfSome, OnSome};
+ghost use Rattle.std.specs.Prelude.{◌≡◌, ◌<◌, ◌≤◌, length, IfSome, OnSome};
 ghost use Rattle.serde_json.specs.Data.{Data, Items as DataItems, Members, no_members, array, object, put};
 ghost use Rattle.json_walk.specs.Reads.{Begins, BeginsItems, BeginsMembers};
 ghost use Rattle.json_shapes.specs.Shapes.{whole};
@@ -38,6 +38,15 @@ pub trait Membered: Sized + Drop {
         ensures shorter { OnSome result (length reader.new < length reader.old) };
 }
 
+// The same items, with no room for more: most lists that are read have one item or two, where a list grows by four.
+fn fitted<T: Drop>(items: Items<T>) -> Items<T>
+    ensures { result ≡ items }
+{
+    let mut all = items.into_vec();
+    all.shrink_to_fit();
+    Items::from_vec(all)
+}
+
 // The items that are left of a list.
 fn list_items<T: Listed>(alloc: Global, reader: &mut Reader<'_>, depth: usize) -> Option<Items<T>>
     ensures ok { IfSome result (λ xs. (ds : DataItems)
@@ -51,7 +60,7 @@ fn list_items<T: Listed>(alloc: Global, reader: &mut Reader<'_>, depth: usize) -
             return None;
         }
     }
-    Some(found)
+    Some(fitted(found))
 }
 
 /// The list that is next.

@@ -26,5 +26,5 @@ returns-clause-ok g c =
     let gone = c.items.invariant.0 in (
       gone.made no_items,
       items_done c.args.depth c.args.reader.now c.items.reader c.take_end_array.new.self gone (grind arith),
-      all_found g.T.Listed.gives c.items.found gone.made c.items.invariant.1,
+      rw c.fitted.ensures (all_found g.T.Listed.gives c.items.found gone.made c.items.invariant.1),
     )
