@@ -85,6 +85,8 @@ fn function_in(found: FoundFunction) -> Option<FunctionEntry>
 }
 
 impl Listed for FunctionEntry {
+    type Of = FunctionEntry;
+
     ghost gives = { Is function_of };
 
     fn read(alloc: Global, reader: &mut Reader<'_>, depth: usize) -> Option<FunctionEntry> {
@@ -133,7 +135,7 @@ impl Membered for FoundBranch {
             return Some(found);
         }
         if key == "locations" {
-            let new = Items::read(alloc, reader, depth)?;
+            let new = Items::<Loc>::read(alloc, reader, depth)?;
             found.locations = Some(new);
             return Some(found);
         }
@@ -167,6 +169,8 @@ fn branch_in(found: FoundBranch) -> Option<BranchEntry>
 }
 
 impl Listed for BranchEntry {
+    type Of = BranchEntry;
+
     ghost gives = { Is branch_of };
 
     fn read(alloc: Global, reader: &mut Reader<'_>, depth: usize) -> Option<BranchEntry> {

@@ -36,17 +36,17 @@ impl Membered for FoundMaps {
     ) -> Option<FoundMaps> {
         let mut found = self;
         if key == "statementMap" {
-            let new = Object::read(alloc, reader, depth)?;
+            let new = Object::<Member<Loc>>::read(alloc, reader, depth)?;
             found.statements = Some(new);
             return Some(found);
         }
         if key == "fnMap" {
-            let new = Object::read(alloc, reader, depth)?;
+            let new = Object::<Member<FunctionEntry>>::read(alloc, reader, depth)?;
             found.functions = Some(new);
             return Some(found);
         }
         if key == "branchMap" {
-            let new = Object::read(alloc, reader, depth)?;
+            let new = Object::<Member<BranchEntry>>::read(alloc, reader, depth)?;
             found.branches = Some(new);
             return Some(found);
         }
@@ -83,17 +83,17 @@ impl Membered for FoundCounts {
     ) -> Option<FoundCounts> {
         let mut found = self;
         if key == "s" {
-            let new = Object::read(alloc, reader, depth)?;
+            let new = Object::<Member<u64>>::read(alloc, reader, depth)?;
             found.s = Some(new);
             return Some(found);
         }
         if key == "f" {
-            let new = Object::read(alloc, reader, depth)?;
+            let new = Object::<Member<u64>>::read(alloc, reader, depth)?;
             found.f = Some(new);
             return Some(found);
         }
         if key == "b" {
-            let new = Object::read(alloc, reader, depth)?;
+            let new = Object::<Member<Items<u64>>>::read(alloc, reader, depth)?;
             found.b = Some(new);
             return Some(found);
         }

@@ -37,6 +37,8 @@ impl Membered for Mark {
 }
 
 impl Listed for Mark {
+    type Of = Mark;
+
     ghost gives = { Is mark_of };
 
     fn read(alloc: Global, reader: &mut Reader<'_>, depth: usize) -> Option<Mark> {
@@ -101,6 +103,8 @@ fn loc_in(found: FoundLoc) -> Option<Loc>
 }
 
 impl Listed for Loc {
+    type Of = Loc;
+
     ghost gives = { Is loc_of };
 
     fn read(alloc: Global, reader: &mut Reader<'_>, depth: usize) -> Option<Loc> {

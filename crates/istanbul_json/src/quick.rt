@@ -37,6 +37,8 @@ fn file_in(alloc: Global, found: FoundFile) -> Option<FileCoverage>
 }
 
 impl Keyed for FileCoverage {
+    type Of = FileCoverage;
+
     ghost key_of = { λ f. f.path };
 
     ghost says = { SaysFile };
@@ -62,7 +64,7 @@ pub fn quick_coverage(alloc: Global, bytes: &[u8]) -> Option<Items<FileCoverage>
     ensures reading { IfSome result (λ files. coverage_reading bytes.now ≡ Ok files) }
     ensures in_order { IfSome result ArePathsInOrder }
 {
-    let files: Object<FileCoverage> = read_bytes(alloc, bytes)?;
+    let files = read_bytes::<Object<FileCoverage>>(alloc, bytes)?;
     let Object { members } = files;
     strictly_ordered(members.into_vec())
 }

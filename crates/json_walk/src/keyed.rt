@@ -9,16 +9,19 @@ use cov_text::{Items, Text};
 use json::{Reader, Token};
 use std::alloc::Global;
 
-/// What is read of one member of an object with any keys.
-pub trait Keyed: Sized + Drop {
-    /// The key of the member.
-    ghost key_of: { Self → List ℕ };
+/// A way to read one member of an object with any keys.
+pub trait Keyed {
+    /// What the member is read as.
+    type Of: Drop;
 
-    /// What the member says of the data that it was read of.
-    ghost says: { Self → Data → Type 0 };
+    /// Its key.
+    ghost key_of: { Self.Of → List ℕ };
+
+    /// What it says of the data that it was read of.
+    ghost says: { Self.Of → Data → Type 0 };
 
     /// The member of this key whose value is next, nested no deeper than `depth`; `None` says nothing.
-    fn read_member(alloc: Global, key: &str, reader: &mut Reader<'_>, depth: usize) -> Option<Self>
+    fn read_member(alloc: Global, key: &str, reader: &mut Reader<'_>, depth: usize) -> Option<Self::Of>
         ensures ok { IfSome result (λ x. (d : Data) × Begins depth reader.old d reader.new
             × says x d × (key_of x ≡ key.now)) }
         ensures shorter { OnSome result (length reader.new < length reader.old) };
@@ -32,6 +35,8 @@ pub struct Member<T> {
 }
 
 impl<T: Listed> Keyed for Member<T> {
+    type Of = Member<T::Of>;
+
     ghost key_of = { λ m. m.key };
 
     ghost says = { λ m d. T.gives m.value d };
@@ -41,7 +46,7 @@ impl<T: Listed> Keyed for Member<T> {
         key: &str,
         reader: &mut Reader<'_>,
         depth: usize,
-    ) -> Option<Member<T>> {
+    ) -> Option<Member<T::Of>> {
         let value = T::read(alloc, reader, depth)?;
         match Text::from_text(alloc, key) {
             Ok(key) => Some(Member { key, value }),
@@ -57,7 +62,7 @@ pub struct Object<T> {
 }
 
 // The members that are left of an object.
-fn keyed_members<T: Keyed>(alloc: Global, reader: &mut Reader<'_>, depth: usize) -> Option<Items<T>>
+fn keyed_members<T: Keyed>(alloc: Global, reader: &mut Reader<'_>, depth: usize) -> Option<Items<T::Of>>
     ensures ok { IfSome result (λ xs. (ms : Members) × BeginsMembers depth reader.old ms reader.new
         × ArePutIn T.key_of T.says (reverse xs) ms) }
     ensures shorter { OnSome result (length reader.new ≤ length reader.old) }
@@ -78,9 +83,11 @@ fn keyed_members<T: Keyed>(alloc: Global, reader: &mut Reader<'_>, depth: usize)
 }
 
 impl<T: Keyed> Listed for Object<T> {
+    type Of = Object<T::Of>;
+
     ghost gives = { λ x d. GivesObject T.key_of T.says x.members d };
 
-    fn read(alloc: Global, reader: &mut Reader<'_>, depth: usize) -> Option<Object<T>> {
+    fn read(alloc: Global, reader: &mut Reader<'_>, depth: usize) -> Option<Object<T::Of>> {
         let token = reader.next()?;
         let Token::BeginObject = token else {
             return None;
@@ -88,7 +95,7 @@ impl<T: Keyed> Listed for Object<T> {
         if depth == 0 {
             return None;
         }
-        let members = keyed_members(alloc, reader, depth - 1)?;
+        let members = keyed_members::<T>(alloc, reader, depth - 1)?;
         Some(Object { members })
     }
 }

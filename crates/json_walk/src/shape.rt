@@ -10,13 +10,16 @@ use cov_text::Items;
 use json::{Reader, Token};
 use std::alloc::Global;
 
-/// What is read of one value, as an item of a list or a whole text.
-pub trait Listed: Sized + Drop {
-    /// What the value says of the data that it was read of.
-    ghost gives: { Self → Data → Type 0 };
+/// A way to read one value, as an item of a list or a whole text.
+pub trait Listed {
+    /// What the value is read as.
+    type Of: Drop;
+
+    /// What it says of the data that it was read of.
+    ghost gives: { Self.Of → Data → Type 0 };
 
     /// The value that is next, nested no deeper than `depth`; `None` says nothing.
-    fn read(alloc: Global, reader: &mut Reader<'_>, depth: usize) -> Option<Self>
+    fn read(alloc: Global, reader: &mut Reader<'_>, depth: usize) -> Option<Self::Of>
         ensures ok { IfSome result (λ x. (d : Data)
             × Begins depth reader.old d reader.new × gives x d) }
         ensures shorter { OnSome result (length reader.new < length reader.old) };
@@ -48,7 +51,7 @@ fn fitted<T: Drop>(items: Items<T>) -> Items<T>
 }
 
 // The items that are left of a list.
-fn list_items<T: Listed>(alloc: Global, reader: &mut Reader<'_>, depth: usize) -> Option<Items<T>>
+fn list_items<T: Listed>(alloc: Global, reader: &mut Reader<'_>, depth: usize) -> Option<Items<T::Of>>
     ensures ok { IfSome result (λ xs. (ds : DataItems)
         × BeginsItems depth reader.old ds reader.new × AreGiven T.gives xs ds) }
     ensures shorter { OnSome result (length reader.new ≤ length reader.old) }
@@ -68,7 +71,7 @@ pub fn read_list<T: Listed>(
     alloc: Global,
     reader: &mut Reader<'_>,
     depth: usize,
-) -> Option<Items<T>>
+) -> Option<Items<T::Of>>
     ensures ok { IfSome result (λ xs. (ds : DataItems)
         × Begins depth reader.old (array ds) reader.new × AreGiven T.gives xs ds) }
     ensures shorter { OnSome result (length reader.new < length reader.old) }
@@ -80,7 +83,7 @@ pub fn read_list<T: Listed>(
     if depth == 0 {
         return None;
     }
-    list_items(alloc, reader, depth - 1)
+    list_items::<T>(alloc, reader, depth - 1)
 }
 
 // The members that are left of an object.
@@ -116,6 +119,8 @@ pub fn read_object<T: Membered>(alloc: Global, reader: &mut Reader<'_>, depth: u
 }
 
 impl Listed for u64 {
+    type Of = u64;
+
     ghost gives = { Is whole };
 
     #[inline(always)]
@@ -126,9 +131,11 @@ impl Listed for u64 {
 }
 
 impl<T: Listed> Listed for Items<T> {
+    type Of = Items<T::Of>;
+
     ghost gives = { GivesList T.gives };
 
-    fn read(alloc: Global, reader: &mut Reader<'_>, depth: usize) -> Option<Items<T>> {
-        read_list(alloc, reader, depth)
+    fn read(alloc: Global, reader: &mut Reader<'_>, depth: usize) -> Option<Items<T::Of>> {
+        read_list::<T>(alloc, reader, depth)
     }
 }

@@ -9,7 +9,7 @@ use std::test::Fail;
 fn objects_keep_their_members_as_they_stand(rt: HostRuntime) -> Result<(), Fail> {
     let alloc = rt.alloc();
     let text = "{\"10\":[1],\"2\":[3,4],\"10\":[]}";
-    let read: Object<Member<Items<u64>>> = read_bytes(alloc, text.as_bytes()).ok_or("not read")?;
+    let read = read_bytes::<Object<Member<Items<u64>>>>(alloc, text.as_bytes()).ok_or("not read")?;
     let members = read.members.as_slice();
     assert_eq!(rt; members.len(), 3);
     assert!(rt; members[0].key.as_text() == "10");
@@ -32,11 +32,11 @@ fn texts_of_another_kind_are_not_read(rt: HostRuntime) -> Result<(), Fail> {
         "[18446744073709551616]",
         "{}",
     ] {
-        let read: Option<Items<u64>> = read_bytes(alloc, text.as_bytes());
+        let read = read_bytes::<Items<u64>>(alloc, text.as_bytes());
         assert!(rt; read.is_none(), "{text}");
     }
     for text in ["[]", " [1, 18446744073709551615]\n"] {
-        let read: Option<Items<u64>> = read_bytes(alloc, text.as_bytes());
+        let read = read_bytes::<Items<u64>>(alloc, text.as_bytes());
         assert!(rt; read.is_some(), "{text}");
     }
     Ok(())

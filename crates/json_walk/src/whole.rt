@@ -14,7 +14,7 @@ use std::alloc::Global;
 const MAX_DEPTH: usize = 127;
 
 /// What a text is read as. `None` says nothing of the text.
-pub fn read_text<T: Listed>(alloc: Global, text: &str) -> Option<T>
+pub fn read_text<T: Listed>(alloc: Global, text: &str) -> Option<T::Of>
     ensures { IfSome result (λ x. (d : Data) × (read text.now ≡ Some d) × T.gives x d) }
 {
     let mut scratch = Scratch::new(alloc);
@@ -29,7 +29,7 @@ pub fn read_text<T: Listed>(alloc: Global, text: &str) -> Option<T>
 }
 
 /// What bytes are read as, where they are a text of at most the greatest size. `None` says nothing of them.
-pub fn read_bytes<T: Listed>(alloc: Global, bytes: &[u8]) -> Option<T>
+pub fn read_bytes<T: Listed>(alloc: Global, bytes: &[u8]) -> Option<T::Of>
     ensures value { IfSome result (λ x. (d : Data) × (parsed bytes.now ≡ Some d) × T.gives x d) }
     ensures short { OnSome result (length bytes.now ≤ max_text) }
 {
@@ -37,7 +37,7 @@ pub fn read_bytes<T: Listed>(alloc: Global, bytes: &[u8]) -> Option<T>
         return None;
     }
     match simdutf8::compat::from_utf8(bytes) {
-        Ok(text) => read_text(alloc, text),
+        Ok(text) => read_text::<T>(alloc, text),
         Err(_) => None,
     }
 }

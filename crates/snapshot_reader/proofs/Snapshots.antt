@@ -12,9 +12,10 @@ use Rattle.cov_model.specs.Reading.{range_of, report_of, entry_of, snapshot_of}
 use Rattle.snapshot_reader.specs.declared.range.FoundRange.{FoundRange}
 use Rattle.snapshot_reader.specs.declared.function.FoundFunction.{FoundFunction}
 use Rattle.snapshot_reader.specs.declared.script.FoundScript.{FoundScript}
-use Rattle.snapshot_reader.specs.Shape.{Is, Has, GivesList}
+use Rattle.json_walk.specs.Shape.{Is, Has, GivesList}
 use Rattle.snapshot_reader.specs.Snapshots.{GivesRange, GivesReport, GivesEntry, HoldsRange, HoldsFunction, HoldsScript, HasScripts}
-use Rattle.snapshot_reader.proofs.Lists.{each_given, all_given, member_has}
+use Rattle.json_walk.proofs.Lists.{all_given}
+use Rattle.snapshot_reader.proofs.Lists.{each_given, member_has}
 
 pub range_is : (ms : Members) (found : FoundRange) (r : Range) → HoldsRange found ms → (found.start ≡ Some r.start) × (found.end ≡ Some r.end) × (found.count ≡ Some r.count) → GivesRange r (object ms)
 range_is ms found r h is s f k =

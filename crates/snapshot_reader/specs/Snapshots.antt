@@ -1,7 +1,7 @@
 -- What the parts of a snapshot are read of.
 use Rattle.std.specs.Prelude.{◌≡◌, ℕ, List, Option, None, option_map, option_and_then, Ok, IfSome, codes}
 use Rattle.json_shapes.specs.Shapes.{parsed, whole, offset_of}
-use Rattle.serde_json.specs.Data.{Data, Members}
+use Rattle.serde_json.specs.Data.{Data, Members, object}
 use Rattle.serde_json.specs.Find.{as_str, as_bool, get, get_member}
 use Rattle.serde_json.specs.View.{view}
 use Rattle.cov_model.specs.declared.report.Range.{Range}
@@ -9,7 +9,7 @@ use Rattle.cov_model.specs.declared.report.FunctionReport.{FunctionReport}
 use Rattle.cov_model.specs.declared.snapshot.Entry.{Entry}
 use Rattle.cov_model.specs.Nesting.{range_fault, AreReportsNested, AreNested}
 use Rattle.cov_model.specs.Reading.{range_of, report_of, entry_of}
-use Rattle.snapshot_reader.specs.Shape.{Is, GivesList, Has}
+use Rattle.json_walk.specs.Shape.{Is, GivesList, Has}
 use Rattle.snapshot_reader.specs.declared.range.FoundRange.{FoundRange}
 use Rattle.snapshot_reader.specs.declared.function.FoundFunction.{FoundFunction}
 use Rattle.snapshot_reader.specs.declared.script.FoundScript.{FoundScript}
@@ -57,6 +57,14 @@ abbrev pub HoldsText : FoundText → Members → Type 0
 HoldsText found ms =
     HoldsTop found.top ms
     × (option_map view found.maps ≡ get_member (codes "source-map-cache") ms)
+
+-- what a whole text says, as its object
+
+abbrev pub GivesTop : FoundTop → Data → Type 0
+GivesTop found d = (ms : Members) × (object ms ≡ d) × HoldsTop found ms
+
+abbrev pub GivesText : FoundText → Data → Type 0
+GivesText found d = (ms : Members) × (object ms ≡ d) × HoldsText found ms
 
 -- ---- a whole text
 

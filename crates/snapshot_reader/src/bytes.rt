@@ -4,8 +4,9 @@ ghost use Rattle.serde_json.specs.View.{view};
 ghost use Rattle.cov_model.specs.Reading.{reading};
 ghost use Rattle.snapshot_reader.specs.Snapshots.{text_maps};
 
-use crate::text::{ReadText, read_scripts, read_with_maps};
-use cov_model::{MAX_TEXT, Snapshot};
+use crate::text::{FoundText, FoundTop, ReadText, snapshot_in};
+use cov_model::Snapshot;
+use json_walk::read_bytes;
 use std::alloc::Global;
 
 /// The snapshot that bytes are, and the member `source-map-cache` of their object, where it has one. `None` says nothing
@@ -15,24 +16,16 @@ pub fn fast_text(alloc: Global, bytes: &[u8]) -> Option<ReadText>
     ensures snapshot { IfSome result (λ r. reading bytes.now ≡ Ok r.snapshot) }
     ensures maps { IfSome result (λ r. option_map view r.maps ≡ text_maps bytes.now) }
 {
-    if bytes.len() > MAX_TEXT {
-        return None;
-    }
-    match simdutf8::compat::from_utf8(bytes) {
-        Ok(text) => read_with_maps(alloc, text),
-        Err(_) => None,
-    }
+    let found = read_bytes::<FoundText>(alloc, bytes)?;
+    let FoundText { top, maps } = found;
+    let snapshot = snapshot_in(top)?;
+    Some(ReadText { snapshot, maps })
 }
 
 /// The snapshot that bytes are, as [`fast_text`] reads it. What they say of maps is passed over, with no memory for it.
 pub fn fast_reading(alloc: Global, bytes: &[u8]) -> Option<Snapshot>
     ensures { IfSome result (λ s. reading bytes.now ≡ Ok s) }
 {
-    if bytes.len() > MAX_TEXT {
-        return None;
-    }
-    match simdutf8::compat::from_utf8(bytes) {
-        Ok(text) => read_scripts(alloc, text),
-        Err(_) => None,
-    }
+    let found = read_bytes::<FoundTop>(alloc, bytes)?;
+    snapshot_in(found)
 }

@@ -3,13 +3,12 @@ ghost use Rattle.std.specs.Prelude.{◌≡◌, Some, None, IfSome};
 ghost use Rattle.cov_model.specs.Nesting.{range_fault};
 ghost use Rattle.snapshot_reader.specs.Snapshots.{GivesReport, HoldsFunction};
 
-use crate::leaf::{read_bool, read_string};
-use crate::passing::pass;
-use crate::shape::{Listed, Membered, read_list, read_object};
+use crate::range::FoundRange;
 use cov_model::{FunctionReport, Range};
 use cov_ranges::check_ranges;
 use cov_text::{Items, Text};
 use json::Reader;
+use json_walk::{Listed, Membered, pass, read_bool, read_list, read_object, read_string};
 use std::alloc::Global;
 
 /// The members of a function that were found so far.
@@ -60,7 +59,7 @@ impl Membered for FoundFunction {
             });
         }
         if key == "ranges" {
-            let new = read_list(alloc, reader, depth)?;
+            let new = read_list::<FoundRange>(alloc, reader, depth)?;
             return Some(FoundFunction {
                 name,
                 block,
@@ -97,7 +96,9 @@ fn report_in(found: FoundFunction) -> Option<FunctionReport>
     }
 }
 
-impl Listed for FunctionReport {
+impl Listed for FoundFunction {
+    type Of = FunctionReport;
+
     ghost gives = { GivesReport };
 
     fn read(alloc: Global, reader: &mut Reader<'_>, depth: usize) -> Option<FunctionReport> {

@@ -8,16 +8,11 @@
 
 mod bytes;
 mod function;
-mod leaf;
-mod number;
-mod passing;
 mod range;
 mod script;
-mod shape;
 #[cfg(test)]
 mod tests;
 mod text;
-mod tree;
 
 pub use bytes::{fast_reading, fast_text};
 pub use text::ReadText;

@@ -2,11 +2,9 @@
 ghost use Rattle.std.specs.Prelude.{◌≡◌, Some, IfSome};
 ghost use Rattle.snapshot_reader.specs.Snapshots.{GivesRange, HoldsRange};
 
-use crate::leaf::{read_offset, read_whole};
-use crate::passing::pass;
-use crate::shape::{Listed, Membered, read_object};
 use cov_model::Range;
 use json::Reader;
+use json_walk::{Listed, Membered, pass, read_object, read_offset, read_whole};
 use std::alloc::Global;
 
 /// The members of a range that were found so far.
@@ -79,7 +77,9 @@ fn range_in(found: FoundRange) -> Option<Range>
     })
 }
 
-impl Listed for Range {
+impl Listed for FoundRange {
+    type Of = Range;
+
     ghost gives = { GivesRange };
 
     fn read(alloc: Global, reader: &mut Reader<'_>, depth: usize) -> Option<Range> {

@@ -2,12 +2,11 @@
 ghost use Rattle.std.specs.Prelude.{◌≡◌, Some, IfSome};
 ghost use Rattle.snapshot_reader.specs.Snapshots.{GivesEntry, HoldsScript};
 
-use crate::leaf::read_string;
-use crate::passing::pass;
-use crate::shape::{Listed, Membered, read_list, read_object};
+use crate::function::FoundFunction;
 use cov_model::{Entry, FunctionReport};
 use cov_text::{Items, Text};
 use json::Reader;
+use json_walk::{Listed, Membered, pass, read_list, read_object, read_string};
 use std::alloc::Global;
 
 /// The members of a script that were found so far.
@@ -43,7 +42,7 @@ impl Membered for FoundScript {
             });
         }
         if key == "functions" {
-            let new = read_list(alloc, reader, depth)?;
+            let new = read_list::<FoundFunction>(alloc, reader, depth)?;
             return Some(FoundScript {
                 url,
                 functions: Some(new),
@@ -65,7 +64,9 @@ fn entry_in(found: FoundScript) -> Option<Entry>
     })
 }
 
-impl Listed for Entry {
+impl Listed for FoundScript {
+    type Of = Entry;
+
     ghost gives = { GivesEntry };
 
     fn read(alloc: Global, reader: &mut Reader<'_>, depth: usize) -> Option<Entry> {

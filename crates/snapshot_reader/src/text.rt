@@ -1,17 +1,12 @@
-//! The snapshot that a text is.
-ghost use Rattle.std.specs.Prelude.{◌≡◌, Some, Ok, option_map, IfSome};
-ghost use Rattle.serde_json.specs.Data.{Data, Members, object};
-ghost use Rattle.serde_json.specs.Read.{read};
-ghost use Rattle.serde_json.specs.View.{view};
-ghost use Rattle.cov_model.specs.Reading.{snapshot_of};
-ghost use Rattle.snapshot_reader.specs.Snapshots.{HoldsTop, HoldsText, HasScripts, maps_in};
+//! What is found of the object of a text.
+ghost use Rattle.std.specs.Prelude.{◌≡◌, Some, IfSome};
+ghost use Rattle.snapshot_reader.specs.Snapshots.{HoldsTop, HoldsText, GivesTop, GivesText, HasScripts};
 
-use crate::passing::pass;
-use crate::shape::{Membered, read_list, read_object};
-use crate::tree::read_value;
+use crate::script::FoundScript;
 use cov_model::{Entry, Snapshot};
 use cov_text::Items;
-use json::{Reader, Scratch};
+use json::Reader;
+use json_walk::{Listed, Membered, pass, read_list, read_object, read_value};
 use serde_json::Value;
 use std::alloc::Global;
 
@@ -44,7 +39,7 @@ impl Membered for FoundTop {
     ) -> Option<FoundTop> {
         let FoundTop { scripts } = self;
         if key == "result" {
-            let new = read_list(alloc, reader, depth)?;
+            let new = read_list::<FoundScript>(alloc, reader, depth)?;
             return Some(FoundTop { scripts: Some(new) });
         }
         pass(reader, depth)?;
@@ -89,49 +84,31 @@ impl Membered for FoundText {
     }
 }
 
-// How deep lists and objects may nest in a text that `serde_json` takes.
-const MAX_DEPTH: usize = 127;
+impl Listed for FoundTop {
+    type Of = FoundTop;
 
-// What is found of the object that a whole text is.
-fn whole_object<T: Membered>(alloc: Global, text: &str) -> Option<T>
-    ensures { IfSome result (λ x. (ms : Members) × (read text.now ≡ Some (object ms)) × T.holds x ms) }
-{
-    let mut scratch = Scratch::new(alloc);
-    let Ok(mut reader) = Reader::new(text, &mut scratch) else {
-        return None;
-    };
-    let found = read_object(alloc, &mut reader, MAX_DEPTH)?;
-    if reader.next().is_some() {
-        return None;
+    ghost gives = { GivesTop };
+
+    fn read(alloc: Global, reader: &mut Reader<'_>, depth: usize) -> Option<FoundTop> {
+        read_object(alloc, reader, depth)
     }
-    Some(found)
 }
 
-// The snapshot of what was found, where the scripts were.
-fn snapshot_in(found: FoundTop) -> Option<Snapshot>
+impl Listed for FoundText {
+    type Of = FoundText;
+
+    ghost gives = { GivesText };
+
+    fn read(alloc: Global, reader: &mut Reader<'_>, depth: usize) -> Option<FoundText> {
+        read_object(alloc, reader, depth)
+    }
+}
+
+/// The snapshot of what was found, where the scripts were.
+pub fn snapshot_in(found: FoundTop) -> Option<Snapshot>
     requires { HasScripts found.scripts }
     ensures { IfSome result (λ s. found.scripts ≡ Some s) }
 {
     let scripts = found.scripts?;
     Some(Snapshot::new(scripts))
-}
-
-/// The snapshot that a text is, where every member that is read is of its kind each time that it comes; its maps are
-/// passed over. `None` says nothing of the text.
-pub fn read_scripts(alloc: Global, text: &str) -> Option<Snapshot>
-    ensures { IfSome result (λ s. (d : Data) × (read text.now ≡ Some d) × (snapshot_of d ≡ Ok s)) }
-{
-    let found: FoundTop = whole_object(alloc, text)?;
-    snapshot_in(found)
-}
-
-/// The snapshot that a text is, as [`read_scripts`] reads it, with its maps. `None` says nothing of the text.
-pub fn read_with_maps(alloc: Global, text: &str) -> Option<ReadText>
-    ensures { IfSome result (λ r. (d : Data) × (read text.now ≡ Some d)
-        × (snapshot_of d ≡ Ok r.snapshot) × (option_map view r.maps ≡ maps_in d)) }
-{
-    let found: FoundText = whole_object(alloc, text)?;
-    let FoundText { top, maps } = found;
-    let snapshot = snapshot_in(top)?;
-    Some(ReadText { snapshot, maps })
 }

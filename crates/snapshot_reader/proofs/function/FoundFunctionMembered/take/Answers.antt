@@ -3,9 +3,9 @@ use Rattle.std.specs.Prelude.{codes}
 use Rattle.std.specs.Str.{bytes_eq}
 use Rattle.serde_json.specs.Data.{array}
 use Rattle.serde_json.specs.Find.{as_str, as_bool}
-use Rattle.snapshot_reader.specs.Shape.{Is, GivesList}
+use Rattle.json_walk.specs.Shape.{Is, GivesList}
 use Rattle.snapshot_reader.specs.Snapshots.{GivesRange}
-use Rattle.snapshot_reader.proofs.Lists.{has_here, has_elsewhere, has_beside}
+use Rattle.json_walk.proofs.Lists.{has_here, has_elsewhere, has_beside}
 use Rattle.snapshot_reader.proofs.function.FoundFunctionMembered.take.Goals as goal
 
 pub returns-then-eq-clause-ok : goal.returns-then-eq-clause-ok

@@ -2,8 +2,8 @@ use Rattle.std.proofs.Common.{◌≡◌, true, false, refl, sym}
 use Rattle.std.specs.Prelude.{codes}
 use Rattle.std.specs.Str.{bytes_eq}
 use Rattle.json_shapes.specs.Shapes.{whole, offset_of}
-use Rattle.snapshot_reader.specs.Shape.{Is}
-use Rattle.snapshot_reader.proofs.Lists.{has_here, has_elsewhere, has_beside}
+use Rattle.json_walk.specs.Shape.{Is}
+use Rattle.json_walk.proofs.Lists.{has_here, has_elsewhere, has_beside}
 use Rattle.snapshot_reader.proofs.range.FoundRangeMembered.take.Goals as goal
 
 pub returns-then-eq-clause-ok : goal.returns-then-eq-clause-ok

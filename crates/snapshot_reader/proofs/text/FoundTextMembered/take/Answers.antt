@@ -2,9 +2,9 @@ use Rattle.std.proofs.Common.{◌≡◌, true, false, refl, sym, ◌∙◌}
 use Rattle.std.specs.Prelude.{codes}
 use Rattle.std.specs.Str.{bytes_eq}
 use Rattle.serde_json.specs.View.{view}
-use Rattle.snapshot_reader.specs.Shape.{GivesList}
+use Rattle.json_walk.specs.Shape.{GivesList}
 use Rattle.snapshot_reader.specs.Snapshots.{GivesEntry}
-use Rattle.snapshot_reader.proofs.Lists.{has_beside, is_here, is_as_before}
+use Rattle.json_walk.proofs.Lists.{has_beside, is_here, is_as_before}
 use Rattle.snapshot_reader.proofs.text.FoundTextMembered.take.Goals as goal
 
 pub returns-then-eq-clause-ok : goal.returns-then-eq-clause-ok

@@ -2,9 +2,9 @@ use Rattle.std.proofs.Common.{◌≡◌, true, false, refl, sym}
 use Rattle.std.specs.Prelude.{codes}
 use Rattle.std.specs.Str.{bytes_eq}
 use Rattle.serde_json.specs.Data.{array}
-use Rattle.snapshot_reader.specs.Shape.{GivesList}
+use Rattle.json_walk.specs.Shape.{GivesList}
 use Rattle.snapshot_reader.specs.Snapshots.{GivesEntry}
-use Rattle.snapshot_reader.proofs.Lists.{has_here, has_elsewhere}
+use Rattle.json_walk.proofs.Lists.{has_here, has_elsewhere}
 use Rattle.snapshot_reader.proofs.text.FoundTopMembered.take.Goals as goal
 
 pub returns-then-eq-clause-ok : goal.returns-then-eq-clause-ok

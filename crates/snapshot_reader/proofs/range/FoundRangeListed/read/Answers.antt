@@ -1,7 +1,7 @@
 use Rattle.serde_json.specs.Data.{object}
-use Rattle.snapshot_reader.proofs.Reading.{if_some_weaker}
+use Rattle.json_walk.proofs.Reading.{if_some_weaker}
 use Rattle.snapshot_reader.proofs.Snapshots.{range_is}
-use Rattle.snapshot_reader.proofs.range.RangeListed.read.Goals as goal
+use Rattle.snapshot_reader.proofs.range.FoundRangeListed.read.Goals as goal
 
 pub returns-clause-ok : goal.returns-clause-ok
 returns-clause-ok c =
