@@ -1,6 +1,11 @@
-//! Tests that no case file can be: where memory is wanted, workers that run at once, and the real folder and stream.
+//! Tests that no case file can be: where memory is wanted, workers and sessions that run at once, the real folder and stream, and
+//! sockets.
 #![tactic(auto)]
 
+#[cfg(test)]
+mod calls;
+#[cfg(test)]
+mod meeting;
 #[cfg(test)]
 mod memory;
 #[cfg(test)]
@@ -9,5 +14,11 @@ mod nested;
 mod outside;
 #[cfg(test)]
 mod requests;
+#[cfg(test)]
+mod sessions;
+#[cfg(test)]
+mod socket;
+#[cfg(test)]
+mod watched;
 #[cfg(test)]
 mod workers;

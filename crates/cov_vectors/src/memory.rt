@@ -18,7 +18,8 @@ struct Run<'a> {
 const CROSSING: &str =
     "{\"result\":[{\"functions\":[{\"functionName\":\"\",\"isBlockCoverage\":true,\"ranges\":[{\"count\":1,\"endOffset\":10,\"startOffset\":0},{\"count\":1,\"endOffset\":6,\"startOffset\":2},{\"count\":1,\"endOffset\":8,\"startOffset\":4}]}],\"scriptId\":\"0\",\"url\":\"file:///a.js\"}]}";
 
-const GOOD: &str =
+/// A normal file of one function that was called once.
+pub(crate) const GOOD: &str =
     "{\"result\":[{\"functions\":[{\"functionName\":\"\",\"isBlockCoverage\":true,\"ranges\":[{\"count\":1,\"endOffset\":10,\"startOffset\":0}]}],\"scriptId\":\"0\",\"url\":\"file:///a.js\"}]}";
 
 const MAPPED: &str =
