@@ -1,11 +1,12 @@
 -- Functions with new sums, and scripts as they would be.
-use Rattle.std.proofs.Common.{◌≡◌, ℕ, zero, suc, ◌<◌, ◌≤◌, ◌+◌, ◌++◌, Bool, true, false, List, [], ◌∷◌, length, take, drop, get_or, refl, sym, ap, ◌∙◌, subst, arith}
+use Rattle.std.proofs.Common.{◌≡◌, ℕ, zero, suc, ◌<◌, ◌≤◌, ◌+◌, ◌-◌, ◌++◌, Bool, true, false, List, [], ◌∷◌, length, take, drop, get_or, refl, sym, ap, ◌∙◌, subst, arith}
 use Rattle.std.specs.Prelude.{Option, None, Some, option_map, cond, slice_get, is_some}
 use Rattle.std.specs.Option.{option_or, MatchOption}
 use Rattle.std.specs.List.{AllByRecursion, insert, list_any, slice_set}
 use Rattle.std.specs.List.Sorted.{IsStrictlySortedBy}
 use Rattle.std.specs.declared.cmp.Ordering.TheVariants.{Less}
 use Rattle.std.specs.BTreeSet.{insert_key}
+use Rattle.std.specs.Ordering.{is_lt}
 use Rattle.std.specs.Map.{keys_of, lookup}
 use Rattle.std.specs.BTreeMap.{insert_entry, is_at}
 use Rattle.std.proofs.lemmas.List.{append-nil}
@@ -24,9 +25,9 @@ use Rattle.cov_book.specs.Listed.{AreInOrder, IsPlace, all_listed, bare, bare_ke
 use Rattle.cov_book.specs.Renewed.{AreChanged, IsFoundAt, IsPut, change_before, changed_script, changed_scripts, changed_urls, is_changed, made, new_at, renewed, renewed_at, renewed_one}
 use Rattle.cov_book.specs.Room.{IsPutIn}
 use Rattle.cov_book.specs.Least.{IsLeastSoFar}
-use Rattle.cov_book.proofs.Ordered.{at-equal, file_exact, same-is}
+use Rattle.cov_book.proofs.Ordered.{at-equal, file_exact, same-is, text_total}
 use Rattle.cov_book.proofs.Placed.{none-left, put-found, put-in-order}
-use Rattle.cov_book.proofs.Searched.{found-place, lookup-own, put-there}
+use Rattle.cov_book.proofs.Searched.{found-place, is-less, lookup-own, put-there}
 use Rattle.cov_book.proofs.Joining.{found-append}
 use Rattle.cov_book.proofs.Among.{apart, enter, leave, held-next, held-url, less-differs, none-or, none-there, of-url-insert, of-url-set, same-text, text-same, urls-insert}
 
@@ -485,3 +486,32 @@ module _ (all : List (Key × Sums)) (url : List ℕ) (ss : List Script) (held : 
       λ u. set u ∙ (λ i. cond (same_text (named i) u) (made (of_url (named i) ss) changes) (of_url u (changed_scripts ss cs)))
       ∙ ap (λ fs. cond (same_text url u) (made fs changes) (of_url u (changed_scripts ss cs))) (sym is) in
       leave all url (changed_scripts ss cs) ss sorts (made held changes) (changed_scripts ss (slice_set cs at y)) least later are so_far
+
+-- ---- changes whose last comes before a url
+
+are-before : (url : List ℕ) (cs : List ScriptChange) (k : ℕ) (x : ScriptChange) → IsStrictlySortedBy text_cmp (changed_urls cs) → suc k ≡ length cs → slice_get cs k ≡ Some x → change_before url x ≡ true
+    → AllByRecursion (λ c. change_before url c ≡ true) cs
+unfolding IsStrictlySortedBy
+are-before url [] k x s e is lt = absurd (omega arith)
+are-before url (c ∷ []) zero x s e is lt = let here : c ≡ x = cc in (subst (λ (y : ScriptChange). change_before url y ≡ true) (sym here) lt, tt)
+are-before url (c ∷ []) (suc k) x s e is lt = absurd (omega (arith, e))
+are-before url (c ∷ d ∷ cs) zero x s e is lt = absurd (omega (arith, e))
+are-before url (c ∷ d ∷ cs) (suc k) x s e is lt =
+    let rest = are-before url (d ∷ cs) k x s.1 (omega (arith, e)) is lt in
+    (ap is_lt (text_total.trans c.url d.url url s.0.0 (is-less (text_cmp d.url url) rest.0)), rest)
+
+pub are-before-last : (url : List ℕ) (cs : List ScriptChange) (x : ScriptChange) → IsStrictlySortedBy text_cmp (changed_urls cs) → slice_get cs (length cs - 1) ≡ Some x → change_before url x ≡ true
+    → AllByRecursion (λ c. change_before url c ≡ true) cs
+are-before-last url [] x s is lt = tt
+are-before-last url (c ∷ cs) x s is lt = are-before url (c ∷ cs) (length (c ∷ cs) - 1) x s (omega arith) is lt
+
+pub place-last : (url : List ℕ) (cs : List ScriptChange) → AllByRecursion (λ c. change_before url c ≡ true) cs → IsPlace (change_before url) cs (length cs)
+place-last url cs h = record { front = front cs h; back = back cs; within = omega arith }
+  where
+    front : (cs : List ScriptChange) → AllByRecursion (λ c. change_before url c ≡ true) cs → AllByRecursion (λ c. change_before url c ≡ true) (take (length cs) cs)
+    front [] h = tt
+    front (c ∷ cs) h = (h.0, front cs h.1)
+
+    back : (cs : List ScriptChange) → AllByRecursion (λ c. change_before url c ≡ false) (drop (length cs) cs)
+    back [] = tt
+    back (c ∷ cs) = back cs

@@ -1,5 +1,6 @@
 //! What an addition would change of the scripts of a book.
 ghost use Rattle.std.specs.Prelude.{◌≡◌, ◌<◌, ℕ, [], List, Option, Some, true, length, map, option_copied, option_map, slice_get, IfOk, OnOk};
+ghost use Rattle.std.specs.List.{AllByRecursion};
 ghost use Rattle.std.specs.List.Sorted.{IsStrictlySortedBy};
 ghost use Rattle.std.specs.BTreeSet.{insert_key};
 ghost use Rattle.std.specs.Vec.{vec_len};
@@ -65,7 +66,23 @@ fn place_of_url(changes: &[ScriptChange], url: &str) -> usize
     requires { IsStrictlySortedBy text_cmp (changed_urls changes.now) }
     ensures { IsPlace (change_before url.now) changes.now result }
 {
+    if are_before(changes, url) {
+        return changes.len();
+    }
     changes.partition_point(|change| change.url.as_text().cmp(url).is_lt())
+}
+
+/// Whether all changes come before a url, told by the last. The urls of a snapshot mostly come in
+/// order, so that this spares a search.
+fn are_before(changes: &[ScriptChange], url: &str) -> bool
+    requires { IsStrictlySortedBy text_cmp (changed_urls changes.now) }
+    ensures { result ≡ true
+        → AllByRecursion (λ change. change_before url.now change ≡ true) changes.now }
+{
+    let Some(last) = changes.last() else {
+        return false;
+    };
+    last.url.as_text().cmp(url).is_lt()
 }
 
 /// Whether the change of a url stands at a place.
