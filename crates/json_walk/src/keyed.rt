@@ -21,7 +21,12 @@ pub trait Keyed {
     ghost says: { Self.Of → Data → Type 0 };
 
     /// The member of this key whose value is next, nested no deeper than `depth`; `None` says nothing.
-    fn read_member(alloc: Global, key: &str, reader: &mut Reader<'_>, depth: usize) -> Option<Self::Of>
+    fn read_member(
+        alloc: Global,
+        key: &str,
+        reader: &mut Reader<'_>,
+        depth: usize,
+    ) -> Option<Self::Of>
         ensures ok { IfSome result (λ x. (d : Data) × Begins depth reader.old d reader.new
             × says x d × (key_of x ≡ key.now)) }
         ensures shorter { OnSome result (length reader.new < length reader.old) };
@@ -62,7 +67,11 @@ pub struct Object<T> {
 }
 
 // The members that are left of an object.
-fn keyed_members<T: Keyed>(alloc: Global, reader: &mut Reader<'_>, depth: usize) -> Option<Items<T::Of>>
+fn keyed_members<T: Keyed>(
+    alloc: Global,
+    reader: &mut Reader<'_>,
+    depth: usize,
+) -> Option<Items<T::Of>>
     ensures ok { IfSome result (λ xs. (ms : Members) × BeginsMembers depth reader.old ms reader.new
         × ArePutIn T.key_of T.says (reverse xs) ms) }
     ensures shorter { OnSome result (length reader.new ≤ length reader.old) }

@@ -51,7 +51,11 @@ fn fitted<T: Drop>(items: Items<T>) -> Items<T>
 }
 
 // The items that are left of a list.
-fn list_items<T: Listed>(alloc: Global, reader: &mut Reader<'_>, depth: usize) -> Option<Items<T::Of>>
+fn list_items<T: Listed>(
+    alloc: Global,
+    reader: &mut Reader<'_>,
+    depth: usize,
+) -> Option<Items<T::Of>>
     ensures ok { IfSome result (λ xs. (ds : DataItems)
         × BeginsItems depth reader.old ds reader.new × AreGiven T.gives xs ds) }
     ensures shorter { OnSome result (length reader.new ≤ length reader.old) }
