@@ -3,8 +3,6 @@
 
 mod parts;
 mod shown;
-#[cfg(test)]
-mod tests;
 
 pub use parts::{put, put_number};
 pub use shown::{cleaned, put_cleaned};

@@ -5,8 +5,6 @@ mod fault;
 mod many;
 mod places;
 mod session;
-#[cfg(test)]
-mod tests;
 
 pub use cov_session::PeerWhy;
 pub use fault::{AttachAllFault, AttachFault};

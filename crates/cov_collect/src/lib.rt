@@ -13,6 +13,3 @@ pub use collector::Collector;
 pub use naming::Naming;
 pub use outcome::{Batch, Collected};
 pub use shelf::Shelf;
-
-#[cfg(test)]
-mod tests;

@@ -3,8 +3,6 @@
 
 mod normal;
 mod reading;
-#[cfg(test)]
-mod tests;
 mod writing;
 
 pub use cov_model::TextFault;

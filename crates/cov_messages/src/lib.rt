@@ -6,8 +6,6 @@ mod message;
 mod reply;
 mod request;
 mod snapshot;
-#[cfg(test)]
-mod tests;
 mod writing;
 
 pub use cov_model::{Entry, Field, Place, ShapeFault, Snapshot};

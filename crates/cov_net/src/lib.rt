@@ -6,6 +6,3 @@ mod tcp;
 
 pub use socket::SocketLink;
 pub use tcp::{LONGEST_MESSAGE, TcpNet};
-
-#[cfg(test)]
-mod tests;

@@ -12,8 +12,6 @@ mod flat_list;
 pub mod laws;
 mod nested_list;
 mod nesting;
-#[cfg(test)]
-mod tests;
 
 pub use cov_model::{Items, Range};
 pub use cov_steps::Runs;

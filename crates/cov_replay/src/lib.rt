@@ -3,8 +3,6 @@
 
 mod command;
 mod tape;
-#[cfg(test)]
-mod tests;
 
 pub use command::serve;
 pub use tape::{Tape, tape_of};

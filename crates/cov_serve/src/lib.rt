@@ -10,6 +10,3 @@ pub use locked::{Seat, Show, Stepped, next_desk};
 pub use many::{Session, serve_sessions};
 pub use session::serve_session;
 pub use shared::{SharedTarget, close};
-
-#[cfg(test)]
-mod tests;

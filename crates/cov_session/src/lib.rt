@@ -12,8 +12,6 @@ mod merging;
 mod seeing;
 mod session;
 mod target;
-#[cfg(test)]
-mod tests;
 
 pub use client::{Client, HearFault, Heard, PeerWhy};
 pub use cov_book::SumFault;

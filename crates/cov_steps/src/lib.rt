@@ -9,8 +9,6 @@ pub mod laws;
 mod pushing;
 mod runs;
 mod sum;
-#[cfg(test)]
-mod tests;
 
 pub use cov_model::Steps;
 pub use fault::StepFault;

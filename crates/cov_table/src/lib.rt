@@ -8,8 +8,6 @@ mod columns;
 mod runs;
 mod shares;
 mod table_rows;
-#[cfg(test)]
-mod tests;
 
 pub use check::{check_text, misses};
 pub use cov_percent::Percent;

@@ -13,6 +13,8 @@ mod nested;
 #[cfg(test)]
 mod outside;
 #[cfg(test)]
+mod replaying;
+#[cfg(test)]
 mod requests;
 #[cfg(test)]
 mod sessions;

@@ -5,8 +5,6 @@ mod files;
 mod listed;
 mod order;
 mod parts;
-#[cfg(test)]
-mod tests;
 mod writing;
 
 pub use files::CoverageFiles;

@@ -13,8 +13,6 @@ mod marks;
 mod members;
 mod quick;
 mod reading;
-#[cfg(test)]
-mod tests;
 mod values;
 mod writing;
 

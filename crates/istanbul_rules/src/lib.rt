@@ -10,8 +10,6 @@ mod locating;
 mod painting;
 mod part;
 mod remapped;
-#[cfg(test)]
-mod tests;
 
 pub use file::{file_coverage, file_coverage_by};
 pub use ignoring::ignored;

@@ -4,8 +4,6 @@
 mod lists;
 mod parts;
 mod pieces;
-#[cfg(test)]
-mod tests;
 
 pub use lists::{Part, write_list};
 pub use parts::{put, put_number, put_quoted, put_string};

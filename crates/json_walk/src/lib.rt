@@ -10,8 +10,6 @@ mod leaf;
 mod number;
 mod passing;
 mod shape;
-#[cfg(test)]
-mod tests;
 mod tree;
 mod whole;
 

@@ -4,8 +4,6 @@
 ghost use Rattle.lcov_text.specs.Examples.{TraceOfTwoLines, NoFile, OddFile};
 
 mod counts;
-#[cfg(test)]
-mod tests;
 mod trace;
 
 pub use counts::{LineCount, Share, branches_share, functions_share, line_counts, lines_share};

@@ -3,8 +3,6 @@
 
 mod draws;
 mod making;
-#[cfg(test)]
-mod tests;
 
 pub use draws::Draws;
 pub use making::made_scripts;

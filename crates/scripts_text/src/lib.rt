@@ -2,8 +2,6 @@
 #![tactic(auto)]
 
 mod parts;
-#[cfg(test)]
-mod tests;
 mod writing;
 
 pub use writing::write_scripts;

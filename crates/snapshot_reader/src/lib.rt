@@ -10,8 +10,6 @@ mod bytes;
 mod function;
 mod range;
 mod script;
-#[cfg(test)]
-mod tests;
 mod text;
 
 pub use bytes::{fast_reading, fast_text};

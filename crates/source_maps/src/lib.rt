@@ -12,8 +12,6 @@ mod reader;
 mod sections;
 mod segments;
 mod start;
-#[cfg(test)]
-mod tests;
 mod version;
 
 pub use entries::{EntryBody, MapEntry, entries_of, entries_of_member};

@@ -6,8 +6,6 @@ mod groups;
 mod lines;
 mod paths;
 mod spans;
-#[cfg(test)]
-mod tests;
 mod walk;
 
 pub use groups::BySource;

@@ -6,8 +6,6 @@
 mod laws;
 mod scan;
 mod table;
-#[cfg(test)]
-mod tests;
 
 use cov_text::Items;
 pub use laws::{coming_back, cut_at_line_ends, worked_examples};

@@ -11,8 +11,6 @@ mod kept;
 mod last;
 mod reader;
 mod segments;
-#[cfg(test)]
-mod tests;
 mod values;
 mod writer;
 

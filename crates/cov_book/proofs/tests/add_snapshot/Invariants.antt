@@ -1,5 +1,0 @@
-use Rattle.cov_book.proofs.tests.add_snapshot.Given as goal
-
--- the ledger of a counter that was just made
-abbrev pub ghosts-add_counted : goal.ghosts-add_counted
-ghosts-add_counted a = record { name = a.blank.name; parts = a.blank.parts }
