@@ -1,6 +1,13 @@
-//! Plays the cases of the folder `cases` again, and says of each whether all comes as it stands there.
+//! Plays the cases of the folders `calls` and `cases` again, and says of each whether all comes as it stands there.
 //!
-//! A case is a transcript: files, runs of a command over them, and below each run what it is to give.
+//! A file of `calls` has calls of the crates below the commands. `$ CALL ARGUMENT` is one, and the line behind it is what it is to
+//! give. Other lines are notes.
+//!
+//! - `$ coverage TEXT`: the coverage files of the text as they are written, or its first fault.
+//! - `$ ignored "TEXT"`: for each line of the text, written as JSON, an `x` where comments leave it out, else a dot.
+//! - `$ mappings "TEXT"`: the mappings of the text as they are written, or its first fault.
+//!
+//! A case of `cases` is a transcript: files, runs of a command over them, and below each run what it is to give.
 //!
 //! - `== PATH` begins a file. The lines behind it are its text, up to the next line that begins `== `,
 //!   `! ` or `$`; the end of the last line is not part of it. The file's folder is there too, and
@@ -24,19 +31,49 @@
 //! or `= `.
 #![tactic(auto)]
 
+mod calls;
 mod stage;
 
-use stage::played;
 use std::rt::Files;
+use std::sync::Wait;
+use std::thread::Threads;
 use std::{fs, io};
 
 fn main(rt: HostRuntime) -> io::Result<()> {
+    let calls = play(&rt, Kind::Calls)?;
+    let cases = play(&rt, Kind::Commands)?;
+    if calls && cases {
+        Ok(())
+    } else {
+        Err(io::Error::from(io::ErrorKind::InvalidData))
+    }
+}
+
+/// What the cases of a folder are.
+#[derive(Clone, Copy)]
+enum Kind {
+    Calls,
+    Commands,
+}
+
+// Plays the cases of a kind, and tells whether all come as they stand.
+fn play<R: Files + Print + Eprint + Threads + Wait + Sync + AllocGlobal + Clone + Drop>(
+    rt: &R,
+    kind: Kind,
+) -> io::Result<bool> {
     let alloc = rt.alloc();
+    let folder = match kind {
+        Kind::Calls => "calls",
+        Kind::Commands => "cases",
+    };
     let mut all_as_wanted = true;
-    for name in names_in(&rt, "cases")? {
-        let path = format!(in alloc; "cases/{name}")?;
-        let wanted = fs::read_to_string(&rt, path.as_str())?;
-        let given = played(&rt, alloc, wanted.as_str())?;
+    for name in names_in(rt, folder)? {
+        let path = format!(in alloc; "{folder}/{name}")?;
+        let wanted = fs::read_to_string(rt, path.as_str())?;
+        let given = match kind {
+            Kind::Calls => calls::played(alloc, wanted.as_str())?,
+            Kind::Commands => stage::played(rt, alloc, wanted.as_str())?,
+        };
         if given.as_str() == wanted.as_str() {
             println!(rt; "{name}: as it stands")?;
         } else {
@@ -47,11 +84,7 @@ fn main(rt: HostRuntime) -> io::Result<()> {
             }
         }
     }
-    if all_as_wanted {
-        Ok(())
-    } else {
-        Err(io::Error::from(io::ErrorKind::InvalidData))
-    }
+    Ok(all_as_wanted)
 }
 
 // The names in a folder, in byte order.

@@ -1,11 +1,11 @@
-//! Worked texts, each fault at each place, and the way back.
+//! Worked texts. `cov_cases` plays each fault at each place, and the way back.
 ghost use Rattle.std.specs.Prelude.{◌≡◌, Some};
 
 use cov_text::Items;
 use std::alloc::Global;
 use std::process::Abort;
 use std::test::Fail;
-use vlq_mappings::{Mappings, Origin, Segment, VlqCause, VlqFault, read_mappings, write_mappings};
+use vlq_mappings::{Mappings, Origin, Segment, read_mappings, write_mappings};
 
 fn mapped(column: u32, source: u32, line: u32, original: u32, name: Option<u32>) -> Segment
     ensures { result ≡ record { column = column; origin = Some (record { source = source; line = line; column = original; name = name }) } }
@@ -28,32 +28,6 @@ fn check_line(rt: &impl Abort, alloc: Global, text: &str, wanted: &[Segment]) {
             _ => panic!(rt; "{text} has other lines"),
         },
         Err(fault) => panic!(rt; "{text}: {fault:?}"),
-    }
-}
-
-// Whether the text is refused with this fault.
-fn check_fault(rt: &impl Abort, alloc: Global, text: &str, place: u32, cause: VlqCause) {
-    assert!(rt; text.len() < 1000);
-    let fault = match read_mappings(alloc, text) {
-        Ok(_) => None,
-        Err(fault) => Some(fault),
-    };
-    assert!(rt;
-        fault == Some(VlqFault::At { place, cause }),
-        "{text}: {fault:?}"
-    );
-}
-
-// Whether the text is read and written as this other text.
-fn check_written(rt: &impl Abort, alloc: Global, text: &str, wanted: &str) {
-    assert!(rt; text.len() < 1000);
-    let written = match read_mappings(alloc, text) {
-        Ok(mappings) => write_mappings(alloc, &mappings).ok(),
-        Err(_) => None,
-    };
-    match written {
-        Some(written) => assert!(rt; written.as_str() == wanted, "{text}: {written}"),
-        None => panic!(rt; "{text} was not written"),
     }
 }
 
@@ -96,76 +70,6 @@ fn reads_a_line_for_each_semicolon(rt: HostRuntime) -> Result<(), Fail> {
         _ => panic!(rt; "not three lines"),
     }
     Ok(())
-}
-
-#[test]
-fn names_the_first_fault_with_its_place(rt: HostRuntime) {
-    let cases = [
-        ("AA", 0, VlqCause::Fields),
-        ("A!", 1, VlqCause::Digit),
-        ("g", 1, VlqCause::Cut),
-        ("AAAA,AAAD", 8, VlqCause::Range),
-        ("D", 0, VlqCause::Range),
-    ];
-    for (text, place, cause) in cases {
-        check_fault(&rt, rt.alloc(), text, place, cause);
-    }
-}
-
-#[test]
-fn names_each_fault_in_the_first_a_middle_and_the_last_segment(rt: HostRuntime) {
-    let cases = [
-        ("A=AA,AAAA;AAAA", 1, VlqCause::Digit),
-        ("AAAA,AA AA;AAAA", 7, VlqCause::Digit),
-        ("AAAA;A,AAAA,AAA-", 15, VlqCause::Digit),
-        ("AAAg,AAAA;AAAA", 4, VlqCause::Cut),
-        ("AAAA;Ag;AAAA", 7, VlqCause::Cut),
-        ("AAAA,AAAA;AAAAgg", 16, VlqCause::Cut),
-        ("AAA,AAAA;AAAA", 0, VlqCause::Fields),
-        ("AAAA;AAAAAA,AAAA", 5, VlqCause::Fields),
-        ("AAAA;AAAA,AAAAAAA", 10, VlqCause::Fields),
-        ("AAADA,AAAA;AAAA", 3, VlqCause::Range),
-        ("AAAA,CADAA;AAAA", 7, VlqCause::Range),
-        ("AAAA;+/////DAAA,CAAA", 16, VlqCause::Range),
-    ];
-    for (text, place, cause) in cases {
-        check_fault(&rt, rt.alloc(), text, place, cause);
-    }
-}
-
-#[test]
-fn ranks_the_faults_of_a_segment(rt: HostRuntime) {
-    let cases = [
-        ("D!g", 1, VlqCause::Digit),
-        ("DDg", 3, VlqCause::Cut),
-        ("DD", 0, VlqCause::Fields),
-        ("DAD", 0, VlqCause::Fields),
-        ("AADD", 2, VlqCause::Range),
-        ("ggggggE", 0, VlqCause::Range),
-        ("hgggggE", 0, VlqCause::Range),
-        ("gggggggggC", 0, VlqCause::Range),
-        ("+/////D,C", 8, VlqCause::Range),
-        ("D,!", 0, VlqCause::Range),
-    ];
-    for (text, place, cause) in cases {
-        check_fault(&rt, rt.alloc(), text, place, cause);
-    }
-}
-
-#[test]
-fn writes_the_shortest_spelling(rt: HostRuntime) {
-    let cases = [
-        ("MAAMA,IACJC,YAAaC", "MAAMA,IACJC,YAAaC"),
-        ("gAAAA", "AAAA"),
-        ("AAAA,,CAAC", "AAAA,CAAC"),
-        (",,AAAA,;;,", "AAAA;;"),
-        ("B;C,D", "A;C,D"),
-        ("+/////D;A,+/////D", "+/////D;A,+/////D"),
-        ("AA+/////DA,AA//////DA", "AA+/////DA,AA//////DA"),
-    ];
-    for (text, wanted) in cases {
-        check_written(&rt, rt.alloc(), text, wanted);
-    }
 }
 
 #[test]

@@ -1,8 +1,7 @@
-//! Texts, ranges and maps with the lines, branches and functions that the rules give them.
+//! Ranges and maps with the lines, branches and functions that the rules give them. `cov_cases` plays what comments leave out.
 ghost use Rattle.std.specs.Prelude.{◌≡◌, IfOk};
 ghost use Rattle.utf16_lines.specs.Lines as lines;
 
-mod comments;
 mod files;
 mod parts;
 
