@@ -1,7 +1,7 @@
 #!/bin/sh
 # Merges a folder of snapshots by GNU parallel: shards are merged side by side, and their files are merged again, which gives
 # the bytes of one `gurvoshin merge FOLDER`. With HOSTS (as 'HOSTS=one,two') the shards go to these machines by ssh, which
-# have gurvoshin on their PATH; only merged files come back.
+# have gurvoshin and rsync on their PATH, as this one has rsync; only merged files come back.
 # usage: [HOSTS=..] examples/shards/by_parallel.sh FOLDER OUT [SHARDS]
 folder=${1:?usage: by_parallel.sh FOLDER OUT [SHARDS]}
 out=${2:?usage: by_parallel.sh FOLDER OUT [SHARDS]}
