@@ -1,10 +1,11 @@
-"""Compares what two programs read of made coverage files, valid, mutated and cut.
+"""Compares the two ways in which coverage files are read, on made texts, valid, mutated and cut.
 
-usage: python3 bench/compare_coverage.py BEFORE AFTER [--texts N] [--seed N]
+usage: python3 bench/compare_coverage.py [--texts N] [--seed N]
 
-BEFORE and AFTER are programs that are given a file, and write the files that `read_coverage` gives of it by `text_of`, with
-status 0, or the fault, with status 3. Output and status have to be the same. It prints how many texts there were of each kind,
-how many were read and how many answers differ, and ends with 1 where one differs. It is no part of the gate.
+Each text is read twice by `cov_cases`, the program that `rt ci` leaves: as it is, where the reading by its tokens answers if it can, and
+with a member `path` of another kind ahead of each file's own. Of equal members the last counts, so that is read the same, but
+only by the parser's value. What is read, or the fault, has to be the same. It prints how many texts there were of each kind, how
+many were read and how many answers differ, and ends with 1 where one differs. It is no part of the gate.
 """
 
 import argparse
@@ -12,14 +13,20 @@ import collections
 import json
 import pathlib
 import random
+import re
 import subprocess
 import tempfile
+
+TOP = pathlib.Path(__file__).resolve().parent.parent
+PROGRAM = TOP / "crates" / "cov_cases" / "out" / "cov_cases"
+CALL = "$ coverage "
+FILE = re.compile(r'("/[abcdz](?:[^"\\]|\\.)*"\s*:\s*\{)')
 
 NUMBERS = ["0", "1", "7", "42", "3", "12", "4294967295"]
 ODD_NUMBERS = ["4294967296", "18446744073709551615", "18446744073709551616", "-1", "1.5", "1e2", "null", '"1"', "01"]
 PATHS = ["/a.js", "/b.js", "/c/é.js", '/d"q.js']
 OTHER_TEXTS = ["[]", "1", "null", '{"a":1}', '{"a":{}}']
-MUTATIONS = b'{}[],:"0123456789abn\\ \xff'
+MUTATIONS = '{}[],:"0123456789abn\\ '
 
 
 class Maker:
@@ -35,7 +42,7 @@ class Maker:
         return self.dice.choice(ODD_NUMBERS if self.rarely(0.015) else NUMBERS)
 
     def space(self) -> str:
-        return self.dice.choice(["", " ", "\n"]) if self.rarely(0.05) else ""
+        return self.dice.choice(["", " ", "\t"]) if self.rarely(0.05) else ""
 
     def object(self, members: list[tuple[str, str]]) -> str:
         put = [f"{json.dumps(key)}{self.space()}:{self.space()}{value}" for key, value in members]
@@ -98,48 +105,63 @@ class Maker:
         ]
         return self.disturbed([*maps, *counts, *([("hash", '"q"')] if self.rarely(0.1) else [])])
 
-    def text(self) -> tuple[str, bytes]:
+    def text(self) -> tuple[str, str]:
         """A text, and whether it stands as it was made."""
         paths = self.dice.sample(PATHS, self.dice.randrange(4))
         if self.rarely(0.7):
             paths.sort()
         members = [("/z.js" if self.rarely(0.01) else path, self.file(path)) for path in paths]
-        made = self.dice.choice(OTHER_TEXTS) if self.rarely(0.02) else self.object(members)
-        text = made.encode()
+        text = self.dice.choice(OTHER_TEXTS) if self.rarely(0.02) else self.object(members)
         if self.rarely(0.1):
             return "cut", text[: self.dice.randrange(len(text))]
         if self.rarely(0.2):
             at = self.dice.randrange(len(text))
-            return "mutated", text[:at] + bytes([self.dice.choice(MUTATIONS)]) + text[at + self.dice.randrange(2) :]
+            return "mutated", text[:at] + self.dice.choice(MUTATIONS) + text[at + self.dice.randrange(2) :]
         return "made", text
 
 
-def answer(program: str, file: pathlib.Path) -> tuple[int, bytes]:
-    done = subprocess.run([program, str(file)], capture_output=True, stdin=subprocess.DEVNULL)
-    return done.returncode, done.stdout
+def by_value(text: str) -> str | None:
+    """The text with a member of another kind ahead of each file's path, if each file has one."""
+    other, files = FILE.subn(r'\1"path":1,', text)
+    return other if files == text.count('"path"') else None
+
+
+def answers(texts: list[str]) -> list[str]:
+    """What the program gives of each text."""
+    with tempfile.TemporaryDirectory() as folder:
+        calls = pathlib.Path(folder) / "calls"
+        calls.mkdir()
+        (pathlib.Path(folder) / "cases").mkdir()
+        (calls / "made.txt").write_text("".join(f"{CALL}{text}\n\n" for text in texts))
+        done = subprocess.run([str(PROGRAM)], cwd=folder, capture_output=True, stdin=subprocess.DEVNULL, text=True)
+    lines = done.stdout.split("\n")
+    return [lines[at + 1] for at, line in enumerate(lines) if line.startswith(CALL)]
 
 
 def main() -> None:
     words = argparse.ArgumentParser()
-    words.add_argument("before")
-    words.add_argument("after")
     words.add_argument("--texts", type=int, default=10000)
     words.add_argument("--seed", type=int, default=1)
     told = words.parse_args()
     maker = Maker(told.seed)
     kinds: collections.Counter = collections.Counter()
-    read = differences = 0
-    with tempfile.TemporaryDirectory() as folder:
-        file = pathlib.Path(folder) / "coverage.json"
-        for _ in range(told.texts):
-            kind, text = maker.text()
+    pairs = []
+    for _ in range(told.texts):
+        kind, text = maker.text()
+        other = by_value(text)
+        if other is None:
+            kinds["passed over"] += 1
+        else:
             kinds[kind] += 1
-            file.write_bytes(text)
-            before, after = answer(told.before, file), answer(told.after, file)
-            read += before[0] == 0
-            if before != after or before[0] not in (0, 3):
-                differences += 1
-                print("differs:", text[:300], before[0], after[0])
+            pairs.append((text, other))
+    given = answers([text for pair in pairs for text in pair])
+    assert len(given) == 2 * len(pairs), "an answer for each text"
+    read = differences = 0
+    for (text, _), before, after in zip(pairs, given[::2], given[1::2]):
+        read += before.startswith("{")
+        if before != after:
+            differences += 1
+            print("differs:", text[:300], before[:100], after[:100])
     print(", ".join(f"{kind} {count}" for kind, count in sorted(kinds.items())))
     print(f"texts {told.texts}, seed {told.seed}, {read} read\ndifferences {differences}")
     raise SystemExit(1 if differences else 0)
