@@ -2,8 +2,6 @@
 ghost use Rattle.std.specs.Prelude.{◌≤◌, length};
 ghost use Rattle.cov_text.specs.Listing.{max_text};
 
-use crate::mapped;
-use cov_messages::{Body, Reply, reply_text, request_of};
 use cov_text::MAX_TEXT;
 use istanbul_json::{CoverageFault, read_coverage, text_of};
 use istanbul_rules::ignored;
@@ -40,20 +38,9 @@ fn put_line(text: &mut String, line: &str) -> Result<(), AllocError> {
 // What a call gives, on one line.
 fn answer(alloc: Global, call: &str) -> Result<String, AllocError> {
     let (name, argument) = call.split_once(" ").unwrap_or((call, ""));
-    match name {
-        "coverage" => coverage(alloc, argument),
-        "request" => request(alloc, argument),
-        "map" => mapped::map(alloc, argument),
-        "path" => mapped::path(alloc, argument),
-        "source" => mapped::source(alloc, argument),
-        "lines" => mapped::lines(alloc, argument),
-        "span" => mapped::span(alloc, argument),
-        _ => of_text(alloc, name, argument),
+    if name == "coverage" {
+        return coverage(alloc, argument);
     }
-}
-
-// What a call gives whose argument is a text written as JSON.
-fn of_text(alloc: Global, name: &str, argument: &str) -> Result<String, AllocError> {
     let Some(text) = text_in(alloc, argument) else {
         return String::from_str(alloc, NO_TEXT);
     };
@@ -84,15 +71,6 @@ fn coverage(alloc: Global, text: &str) -> Result<String, AllocError> {
         }
         Err(CoverageFault::NoMemory) => Err(AllocError),
         Err(fault) => format!(in alloc; "{fault:?}"),
-    }
-}
-
-// The command that a text asks for, or the reply that refuses it.
-fn request(alloc: Global, text: &str) -> Result<String, AllocError> {
-    let request = request_of(alloc, text)?;
-    match request.body {
-        Body::Command(command) => format!(in alloc; "{command:?}"),
-        Body::Refused(code) => reply_text(alloc, request.id, &Reply::Refused(code)),
     }
 }
 

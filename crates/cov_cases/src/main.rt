@@ -6,11 +6,6 @@
 //! - `$ coverage TEXT`: the coverage files of the text as they are written, or its first fault.
 //! - `$ ignored "TEXT"`: for each line of the text, written as JSON, an `x` where comments leave it out, else a dot.
 //! - `$ mappings "TEXT"`: the mappings of the text as they are written, or its first fault.
-//! - `$ map TEXT`: the segments of the source map that the text is, or its first fault.
-//! - `$ path URL` and `$ source SCRIPT SOURCE`: the path of a url, and that of the source, written as JSON, of a script's map.
-//! - `$ lines MAPPINGS SOURCE LENGTHS`: the anchors of the three lines of that source, where the generated lines have these lengths.
-//! - `$ span MAPPINGS LENGTHS START END`: the source, the first and the last spot of that generated range.
-//! - `$ request TEXT`: the command that a client's text asks for, or the reply that refuses it.
 //!
 //! A case of `cases` is a transcript: files, runs of a command over them, and below each run what it is to give.
 //!
@@ -37,7 +32,6 @@
 #![tactic(auto)]
 
 mod calls;
-mod mapped;
 mod stage;
 
 use std::rt::Files;

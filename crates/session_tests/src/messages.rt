@@ -1,10 +1,49 @@
-//! Messages of the Profiler domain, by the texts that its clients and targets send. `cov_cases` plays broken requests.
+//! Messages of the Profiler domain, by the texts that its clients and targets send.
 use cov_messages::{
     Body, Command, ErrorCode, Flags, Message, Reply, message_of, reply_text, request_of,
     request_text,
 };
 use std::process::Abort;
 use std::test::Fail;
+
+#[test]
+fn broken_requests_are_refused_by_their_first_fault(rt: HostRuntime) -> Result<(), Fail> {
+    let alloc = rt.alloc();
+    for (text, reply) in [
+        (
+            "{",
+            "{\"error\":{\"code\":-32700,\"message\":\"Parse error\"}}",
+        ),
+        (
+            "{\"id\":1}",
+            "{\"error\":{\"code\":-32600,\"message\":\"Invalid request\"},\"id\":1}",
+        ),
+        (
+            "{\"id\":2,\"method\":\"Debugger.enable\"}",
+            "{\"error\":{\"code\":-32601,\"message\":\"Method not found\"},\"id\":2}",
+        ),
+        (
+            "{\"id\":3,\"method\":\"Profiler.startPreciseCoverage\",\"params\":{\"callCount\":1}}",
+            "{\"error\":{\"code\":-32602,\"message\":\"Invalid params\"},\"id\":3}",
+        ),
+        (
+            "{\"id\":1.0,\"method\":\"Profiler.enable\"}",
+            "{\"error\":{\"code\":-32600,\"message\":\"Invalid request\"}}",
+        ),
+        (
+            "{\"id\":4,\"method\":\"Profiler.enable\",\"params\":null}",
+            "{\"error\":{\"code\":-32602,\"message\":\"Invalid params\"},\"id\":4}",
+        ),
+    ] {
+        let request = request_of(alloc, text)?;
+        let Body::Refused(code) = request.body else {
+            return Err(Fail::from("a command"));
+        };
+        let written = reply_text(alloc, request.id, &Reply::Refused(code))?;
+        assert_eq!(rt; written.as_str(), reply);
+    }
+    Ok(())
+}
 
 #[test]
 fn replies_are_written_compact(rt: HostRuntime) -> Result<(), Fail> {
