@@ -1,10 +1,11 @@
-"""Compares what two programs answer on made texts, valid, mutated and cut.
+"""Compares the two ways in which snapshots are read, on made texts, valid, mutated and cut.
 
-usage: python3 bench/compare_readings.py BEFORE AFTER [--texts N] [--seed N] [--batch N]
+usage: python3 bench/compare_readings.py [--texts N] [--seed N]
 
-BEFORE and AFTER are command lines that a folder goes behind, as 'crates/c8_command/out/c8_command merge' of two builds. Each
-batch of texts lies in a folder of its own: output, error lines and exit status have to be the same on it. It prints how many
-texts there were of each kind, how many batches ended with status 0 and how many answers differ, with the first differing
+Each text is merged twice by the program that `rt ci` leaves: as it is, where the reading by its tokens answers if it can, and with
+a member `result` of another kind ahead of its own. Of equal members the last counts, so that is read the same, but only by the
+parser's value. Output, error lines and exit status have to be the same. Texts without a `result` of their own are passed over. It
+prints how many texts there were of each kind, how many ended with status 0 and how many answers differ, with the first differing
 lines, and ends with 1 where one differs. It is no part of the gate.
 """
 
@@ -13,9 +14,10 @@ import collections
 import itertools
 import pathlib
 import random
-import shlex
 import subprocess
 import tempfile
+
+from shared import PROGRAM
 
 NUMBERS = [
     "0", "1", "7", "42", "4294967295", "4294967296", "9007199254740993", "18446744073709551615",
@@ -156,9 +158,19 @@ class Maker:
         return "cut", text[: self.dice.randrange(len(text))]
 
 
-def answer(command: str, folder: str) -> tuple[int, bytes, bytes]:
-    words = shlex.split(command) + [folder]
-    done = subprocess.run(words, capture_output=True, stdin=subprocess.DEVNULL)
+def by_value(text: bytes) -> bytes | None:
+    """The text with a member of another kind ahead of its result, if it has one."""
+    if text.count(b'"result"') != 1 or not text.lstrip(b" \n\t\r").startswith(b"{"):
+        return None
+    return text.replace(b"{", b'{"result":0,', 1)
+
+
+def answer(text: bytes) -> tuple[int, bytes, bytes]:
+    with tempfile.TemporaryDirectory() as place:
+        folder = pathlib.Path(place, "cov")
+        folder.mkdir()
+        (folder / "a.json").write_bytes(text)
+        done = subprocess.run([str(PROGRAM), "merge", "cov"], cwd=place, capture_output=True, stdin=subprocess.DEVNULL)
     return done.returncode, done.stdout, done.stderr
 
 
@@ -171,31 +183,26 @@ def first_difference(before: bytes, after: bytes) -> tuple[bytes, bytes] | None:
 
 def main() -> None:
     words = argparse.ArgumentParser()
-    words.add_argument("before")
-    words.add_argument("after")
     words.add_argument("--texts", type=int, default=10000)
     words.add_argument("--seed", type=int, default=1)
-    words.add_argument("--batch", type=int, default=1)
     given = words.parse_args()
     maker = Maker(given.seed)
     kinds: collections.Counter = collections.Counter()
-    ended = lines = differing = 0
-    for first in range(0, given.texts, given.batch):
-        with tempfile.TemporaryDirectory() as folder:
-            for number in range(first, min(first + given.batch, given.texts)):
-                kind, text = maker.changed(maker.text().encode())
-                kinds[kind] += 1
-                pathlib.Path(folder, f"{number:08}.json").write_bytes(text)
-            before = answer(given.before, folder)
-            after = answer(given.after, folder)
+    ended = differing = 0
+    for _ in range(given.texts):
+        kind, text = maker.changed(maker.text().encode())
+        other = by_value(text)
+        if other is None:
+            kinds["passed over"] += 1
+            continue
+        kinds[kind] += 1
+        before, after = answer(text), answer(other)
         ended += before[0] == 0
-        lines += before[1].count(b"\n")
         if before != after:
             differing += 1
-            print(before[0], after[0], first_difference(before[1], after[1]), first_difference(before[2], after[2]))
+            print(before[0], after[0], first_difference(before[1], after[1]), first_difference(before[2], after[2]), text[:200])
     print(", ".join(f"{kind} {count}" for kind, count in sorted(kinds.items())))
-    print(f"texts {given.texts}, seed {given.seed}, batches of {given.batch}; {ended} ended with 0; {lines} lines of output")
-    print(f"differences {differing}")
+    print(f"texts {given.texts}, seed {given.seed}; {ended} ended with 0\ndifferences {differing}")
     raise SystemExit(1 if differing else 0)
 
 
