@@ -50,6 +50,9 @@ KINDS = {
     "functions": (10000, lambda n: [text({"file:///a.js": flat_functions(n, 1)})] * 2),
     "functions falling": (10000, lambda n: [text({"file:///a.js": flat_functions(n, 1)[::-1]})] * 2),
     "urls falling": (10000, lambda n: [text({f"file:///{k:06}.js": flat_functions(1, 1) for k in reversed(range(n))})] * 2),
+    "urls ahead of held ones": (10000, lambda n: [
+        text({f"file:///{half}/{k:06}.js": flat_functions(1, 1) for k in range(n)}) for half in ("b", "a")
+    ]),
     "one url in falling parts": (10000, lambda n: [falling_parts(n)] * 2),
     "sibling ranges": (15000, lambda n: [one("f", siblings(n, 1))] * 2),
     "nested ranges": (12500, lambda n: [one("f", [(k, 4 * n - k, k + 1) for k in range(n)])] * 2),

@@ -58,7 +58,7 @@ pub later-none : (url : List ℕ) (ss : List Script) → AllByRecursion (λ u. t
 later-none url [] h = refl
 later-none url (s ∷ ss) h = ap (λ b. cond b s.functions (of_url url ss)) (text-flip s.url url ∙ less-differs url s.url h.0) ∙ later-none url ss h.1
 
-above : (a b : List ℕ) (us : List (List ℕ)) → text_cmp a b ≡ Less → AllByRecursion (λ u. text_cmp b u ≡ Less) us → AllByRecursion (λ u. text_cmp a u ≡ Less) us
+pub above : (a b : List ℕ) (us : List (List ℕ)) → text_cmp a b ≡ Less → AllByRecursion (λ u. text_cmp b u ≡ Less) us → AllByRecursion (λ u. text_cmp a u ≡ Less) us
 above a b [] lt h = tt
 above a b (u ∷ us) lt h = (text_total.trans a b u lt h.0, above a b us lt h.1)
 

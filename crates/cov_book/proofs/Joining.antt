@@ -81,18 +81,18 @@ last-there x xs none =
     let e : Some some.0 ≡ None = sym some.1 ∙ none in
     cc
 
-at-end : (xs : List Function) (f : Function) (k : ℕ) → suc k ≡ length (xs ++ f ∷ []) → slice_get (xs ++ f ∷ []) k ≡ Some f
+at-end : {A : Type 0} (xs : List A) (f : A) (k : ℕ) → suc k ≡ length (xs ++ f ∷ []) → slice_get (xs ++ f ∷ []) k ≡ Some f
 at-end [] f zero e = refl
 at-end [] f (suc k) e = absurd (omega arith)
 at-end (x ∷ []) f zero e = absurd (omega arith)
 at-end (x ∷ y ∷ xs) f zero e = absurd (omega arith)
 at-end (x ∷ xs) f (suc k) e = at-end xs f k (omega arith)
 
-more-length : (xs : List Function) (f : Function) → length (xs ++ f ∷ []) ≡ suc (length xs)
+pub more-length : {A : Type 0} (xs : List A) (f : A) → length (xs ++ f ∷ []) ≡ suc (length xs)
 more-length [] f = refl
 more-length (x ∷ xs) f = ap suc (more-length xs f)
 
-last-pushed : (xs : List Function) (f : Function) → last_of (xs ++ f ∷ []) ≡ Some f
+pub last-pushed : {A : Type 0} (xs : List A) (f : A) → slice_get (xs ++ f ∷ []) (length (xs ++ f ∷ []) - 1) ≡ Some f
 last-pushed xs f = let more = more-length xs f in at-end xs f (length (xs ++ f ∷ []) - 1) (omega arith)
 
 none-last : (xs : List Function) → last_of xs ≡ None → xs ≡ []

@@ -1,5 +1,6 @@
 -- Words of private functions: room for what is put in place, and what it then is.
-use Rattle.std.specs.Prelude.{◌≡◌, ℕ, ◌+◌, ◌≤◌, false, List, [], map, length}
+use Rattle.std.specs.Prelude.{◌≡◌, ℕ, ◌+◌, ◌≤◌, Bool, true, false, List, [], ◌∷◌, map, length}
+use Rattle.std.specs.Ordering.{is_gt}
 use Rattle.std.specs.Map.{lookup}
 use Rattle.std.specs.Option.{option_or}
 use Rattle.std.specs.BTreeMap.{is_at}
@@ -31,3 +32,8 @@ pub record IsPutIn (s : Script) (old new : List Script) : Type 0 where
   pub held : (key : Key) → held_in new key ≡ option_or (lookup (is_at (file_order key)) (listed s)) (held_in old key)
   pub urls : urls_in new ≡ insert_key text_cmp (urls_in old) s.url
   pub others : (u : List ℕ) → same_text s.url u ≡ false → of_url u new ≡ of_url u old
+
+-- the first of these scripts, if there is one, comes behind a url
+abbrev pub begins_behind : List ℕ → List Script → Bool
+begins_behind url [] = true
+begins_behind url (s ∷ ss) = is_gt (text_cmp s.url url)

@@ -1,5 +1,5 @@
 //! The sums that a snapshot changes, and the first function of which one passes the limit.
-ghost use Rattle.std.specs.Prelude.{◌≡◌, ℕ, ◌+◌, ◌≤◌, [], List, Option, None, length, sum_by, IfOk, IfErr, OnOk, option_copied};
+ghost use Rattle.std.specs.Prelude.{◌≡◌, ℕ, ◌+◌, ◌≤◌, List, Option, None, length, sum_by, IfOk, IfErr, OnOk, option_copied};
 ghost use Rattle.std.specs.BTreeSet.{insert_key};
 ghost use Rattle.cov_text.specs.Listing.{in_order, text_cmp};
 ghost use Rattle.cov_book.specs.declared.sums.Sums.{Sums};
@@ -8,9 +8,9 @@ ghost use Rattle.cov_model.specs.Nesting.{range_fault, AreNested, AreReportsNest
 ghost use Rattle.cov_model.specs.Sums.{file_order};
 ghost use Rattle.cov_book.specs.Spent.{for_entries, for_report, for_reports, own_all, own_runs, runs_at};
 ghost use Rattle.cov_book.specs.Stretching.{IfRooted};
-ghost use Rattle.cov_book.specs.Prepared.{AreKept, ArePrepared, IfPast, IsWithin, report_runs, report_sums, runs_held, summed, sums_now, with_report, with_reports, with_entries};
+ghost use Rattle.cov_book.specs.Prepared.{AreKept, ArePrepared, IfPast, IsWithin, report_runs, report_sums, runs_held, summed, with_report, with_reports, with_entries};
 ghost use Rattle.cov_book.specs.Least.{comes_before, CanGoOn, IsLeastPast, IsLeastSoFar};
-ghost use Rattle.cov_book.specs.Listed.{all_listed, own_list, urls_in, held_in, AreInOrder, AreSorted, Knows, CanGoOnIn};
+ghost use Rattle.cov_book.specs.Listed.{all_listed, own_list, held_in, AreInOrder, AreSorted, Knows, CanGoOnIn};
 ghost use Rattle.cov_book.specs.Renewed.{AreChanged, changed_scripts, changed_urls, made};
 ghost use Rattle.cov_book.specs.Told.{named};
 ghost use Rattle.cov_book.specs.Urls.{urls_of};

@@ -11,7 +11,7 @@ ghost use Rattle.cov_book.specs.declared.scripts.Function.{Function};
 ghost use Rattle.cov_book.specs.declared.scripts.Script.{Script};
 ghost use Rattle.cov_book.specs.Told.{named};
 ghost use Rattle.cov_book.specs.Prepared.{sums_now};
-ghost use Rattle.cov_book.specs.Listed.{AreInOrder, AreSorted, IsPlace, Knows, all_listed, held_in, own_list};
+ghost use Rattle.cov_book.specs.Listed.{AreInOrder, IsPlace, Knows, all_listed, held_in, own_list};
 ghost use Rattle.cov_book.specs.Renewed.{AreChanged, IsFoundAt, IsPut, change_before, changed_scripts, changed_urls, is_changed, made, new_at, renewed, renewed_at};
 
 use crate::looking::sums_among;

@@ -2,7 +2,7 @@
 //!
 //! What an addition comes to doesn't depend on that order, which no clause tells. It is there so that each function comes
 //! behind those that were added before it.
-ghost use Rattle.std.specs.Prelude.{◌≡◌, ◌++◌, [], ◌∷◌, IfOk, OnOk, map};
+ghost use Rattle.std.specs.Prelude.{◌≡◌, ◌++◌, [], ◌∷◌, IfOk, OnOk};
 ghost use Rattle.cov_model.specs.Nesting.{AreNested};
 ghost use Rattle.cov_book.specs.Weights.{entries_in, entry_of, AreAlike};
 

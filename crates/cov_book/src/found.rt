@@ -1,12 +1,12 @@
 //! The reports of one function, and what they sum to.
-ghost use Rattle.std.specs.Prelude.{◌≡◌, ◌++◌, map, filter, IfOk, OnOk, sum_by, None};
+ghost use Rattle.std.specs.Prelude.{◌≡◌, ◌++◌, map, filter, OnOk, sum_by, None};
 ghost use Rattle.cov_model.specs.Nesting.{range_fault, AreReportsNested};
 ghost use Rattle.cov_model.specs.Sums.{is_of, reports};
 ghost use Rattle.cov_book.specs.Counts.{capped, reports_in, weight};
 
 use cov_model::{At, Entry, FunctionReport, Key, Snapshot, Text};
 use cov_ranges::count_at;
-use std::alloc::{AllocError, Global};
+use std::alloc::AllocError;
 
 /// Puts the reports of a key in one snapshot at the end.
 pub fn add_reports<'a>(

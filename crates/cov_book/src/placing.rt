@@ -1,17 +1,16 @@
 //! Changes put in place, where all memory is taken before.
-ghost use Rattle.std.specs.Prelude.{◌≡◌, ◌+◌, ◌<◌, ◌≤◌, [], List, ℕ, false, map, length, None, IfOk, IfSome, OnOk, OnErr};
+ghost use Rattle.std.specs.Prelude.{◌≡◌, ◌+◌, ◌<◌, ◌≤◌, [], ◌∷◌, ◌++◌, List, ℕ, true, length, reverse, None, IfOk, IfSome, OnOk, OnErr};
 ghost use Rattle.std.specs.Option.{option_or};
 ghost use Rattle.std.specs.List.{AllByRecursion};
 ghost use Rattle.std.specs.Map.{lookup};
 ghost use Rattle.std.specs.BTreeMap.{is_at};
-ghost use Rattle.std.specs.BTreeSet.{insert_key};
 ghost use Rattle.std.specs.Vec.{vec_len, vec_capacity};
-ghost use Rattle.cov_text.specs.Listing.{inserted, same_text, text_cmp};
+ghost use Rattle.cov_text.specs.Listing.{inserted, text_cmp};
 ghost use Rattle.cov_model.specs.declared.sums.Key.{Key};
 ghost use Rattle.cov_model.specs.Sums.{file_order};
 ghost use Rattle.cov_book.specs.Listed.{held_in, of_url, own_list, urls_in, AreInOrder, AreSorted};
 ghost use Rattle.cov_book.specs.Renewed.{AreChanged, changed_script, changed_scripts, changed_urls, made};
-ghost use Rattle.cov_book.specs.Room.{HasRoom, IfNot, IsPutIn, changes_in};
+ghost use Rattle.cov_book.specs.Room.{HasRoom, IfNot, IsPutIn, begins_behind, changes_in};
 ghost use Rattle.cov_book.specs.Joining.{by_lasts, last_of, IsTaken};
 
 use crate::changed::{FunctionChanges, ScriptChange, renew};
@@ -28,6 +27,16 @@ pub struct Update {
     pub change: ScriptChange,
     pub room: Vec<Function>,
 }
+
+/// A walk over scripts: those behind it, in order, and those that are left, last first.
+#[derive(Drop)]
+pub struct Walk {
+    pub done: Vec<Script>,
+    pub left: Vec<Script>,
+}
+
+/// How many fresh urls are put in one by one.
+const FEW: usize = 8;
 
 /// Puts changes in place. Without memory nothing changes.
 pub fn put(
@@ -46,11 +55,88 @@ pub fn put(
     ensures err { OnErr result (scripts.new.items ≡ scripts.old.items) }
 {
     let updates = updates_of(alloc, scripts, changed)?;
-    scripts.reserve(updates.len())?;
+    let mut walk = walk_of(alloc, scripts, &updates)?;
     for update in updates {
-        put_change(alloc, scripts, update);
+        go_to(&mut walk.done, &mut walk.left, update.change.url.as_text());
+        put_change(alloc, &mut walk.done, update);
     }
+    let Walk { done, left } = walk;
+    *scripts = with_rest(done, left);
     Ok(())
+}
+
+/// A walk over the scripts, with room for one more of each update. Where few urls seem to be fresh, all
+/// scripts lie behind it at once, so that each update is put in at its place among them; else it begins
+/// before the first, so that what is put in comes to the end. Without memory nothing changes.
+fn walk_of(alloc: Global, scripts: &mut Vec<Script>, updates: &[Update]) -> Result<Walk, AllocError>
+    ensures all { IfOk result (λ walk. walk.done.items ++ reverse walk.left.items ≡ scripts.old.items) }
+    ensures room { IfOk result (λ walk. vec_len walk.done + length walk.left.items + length updates.now
+        ≤ vec_capacity walk.done) }
+    ensures err { OnErr result (scripts.new.items ≡ scripts.old.items) }
+{
+    if !are_many_fresh(updates) {
+        scripts.reserve(updates.len())?;
+        let done = std::mem::replace(scripts, Vec::new(alloc));
+        let left = Vec::new(alloc);
+        return Ok(Walk { done, left });
+    }
+    let Some(count) = scripts.len().checked_add(updates.len()) else {
+        return Err(AllocError);
+    };
+    let done = Vec::with_capacity(alloc, count)?;
+    let mut left = std::mem::replace(scripts, Vec::new(alloc));
+    left.reverse();
+    Ok(Walk { done, left })
+}
+
+/// Whether more than a few updates renew no function, as those of fresh urls. That only speed wants to
+/// know: an update that is put in among the scripts moves those behind it, and a walk moves all.
+fn are_many_fresh(updates: &[Update]) -> bool {
+    let fresh = updates
+        .iter()
+        .filter(|update| update.change.functions.again.is_empty());
+    fresh.count() > FEW
+}
+
+/// Goes over the scripts that don't come behind a url. It takes no memory.
+fn go_to(done: &mut Vec<Script>, left: &mut Vec<Script>, url: &str)
+    requires { vec_len done.now + length left.now.items ≤ vec_capacity done.now }
+    ensures all { done.new.items ++ reverse left.new.items ≡ done.old.items ++ reverse left.old.items }
+    ensures behind { begins_behind url.now (reverse left.new.items) ≡ true }
+    ensures room { (more : ℕ) → vec_len done.old + length left.old.items + more ≤ vec_capacity done.old
+        → vec_len done.new + length left.new.items + more ≤ vec_capacity done.new }
+{
+    'over: while let Some(script) = take_up_to(left, url) {
+        let _ = done.push(script);
+    }
+}
+
+/// Takes the last script, unless it comes behind a url.
+fn take_up_to(left: &mut Vec<Script>, url: &str) -> Option<Script>
+    ensures taken { IfSome result (λ script. left.old.items ≡ left.new.items ++ script ∷ []) }
+    ensures none { result ≡ None → left.new.items ≡ left.old.items }
+    ensures behind { result ≡ None → begins_behind url.now (reverse left.old.items) ≡ true }
+{
+    let Some(last) = left.last() else {
+        return None;
+    };
+    if last.url.as_text().cmp(url).is_gt() {
+        return None;
+    }
+    left.pop()
+}
+
+/// Scripts with those that are left, last first. It takes no memory.
+fn with_rest(done: Vec<Script>, left: Vec<Script>) -> Vec<Script>
+    requires { vec_len done + length left.items ≤ vec_capacity done }
+    ensures { result.items ≡ done.items ++ reverse left.items }
+{
+    let mut all = done;
+    let mut rest = left;
+    'rest: while let Some(script) = rest.pop() {
+        let _ = all.push(script);
+    }
+    all
 }
 
 /// The changes, each with room.

@@ -1,12 +1,10 @@
 //! What a book keeps: scripts in order, and of each its functions in order.
-ghost use Rattle.std.specs.Prelude.{◌≡◌, ℕ, ◌+◌, ◌<◌, ◌≤◌, [], List, Some, IfOk, OnOk, OnErr, is_some, slice_get, slice_set};
+ghost use Rattle.std.specs.Prelude.{◌≡◌, ◌+◌, ◌<◌, ◌≤◌, [], Some, OnOk, OnErr, slice_get, slice_set};
 ghost use Rattle.cov_book.specs.declared.scripts.Script.{Script};
-ghost use Rattle.std.specs.BTreeSet.{insert_key};
-ghost use Rattle.cov_text.specs.Listing.{text_cmp};
 ghost use Rattle.std.specs.Vec.{vec_len, vec_capacity};
 ghost use Rattle.std.specs.BTreeMap.{insert_entry};
 ghost use Rattle.cov_model.specs.Sums.{file_order};
-ghost use Rattle.cov_book.specs.Listed.{bare, bare_key, hit, is_there, of_url, urls_in, AreInOrder, AreSorted};
+ghost use Rattle.cov_book.specs.Listed.{bare, bare_key, is_there, AreInOrder};
 
 use crate::looking::{is_function_at, place_of};
 use crate::sums::Sums;

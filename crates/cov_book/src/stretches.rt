@@ -1,5 +1,5 @@
 //! The sums of many reports at each offset, in one walk, and the first of them past the limit.
-ghost use Rattle.std.specs.Prelude.{◌≡◌, ℕ, ◌+◌, ◌<◌, ◌≤◌, map, find, sum_by, IfOk, OnOk, nat_lt, Bool};
+ghost use Rattle.std.specs.Prelude.{◌≡◌, ℕ, ◌+◌, ◌<◌, ◌≤◌, map, find, sum_by, IfOk, nat_lt, Bool};
 ghost use Rattle.cov_model.specs.declared.sums.At.{At};
 ghost use Rattle.cov_model.specs.declared.sums.At.TheVariants.{Offset};
 ghost use Rattle.cov_model.specs.Nesting.{AreReportsNested};
