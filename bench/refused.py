@@ -33,6 +33,13 @@ def text(count: int, inner: list[tuple[int, int, int]], caches: dict | None = No
     return json.dumps(made)
 
 
+def of_urls(urls: str) -> str:
+    """A text with a function for each of these urls."""
+    ranges = [{"startOffset": 0, "endOffset": 9, "count": 2}]
+    functions = [{"functionName": "f", "isBlockCoverage": True, "ranges": ranges}]
+    return json.dumps({"result": [{"scriptId": "0", "url": f"file:///{url}.js", "functions": functions} for url in urls]})
+
+
 def siblings(count: int) -> list[tuple[int, int, int]]:
     return [(2 * k, 2 * k + 2, k % 2) for k in range(count)]
 
@@ -63,6 +70,7 @@ CASES = {
     "one good text": (["merge"], [GOOD], 1),
     "a good text and a crossing one": (["merge"], [GOOD, CROSSING], 1),
     "the same, of 16 ranges each": (["merge"], [MANY, MANY_CROSSING], 1),
+    "ten urls between ten others": (["merge"], [of_urls("acegikmoqs"), of_urls("bdfhjlnprt")], 1),
     "two texts at the limit": (["merge"], [GREAT, text(1, siblings(3))], 1),
     "two texts past the limit": (["merge"], [GREAT, text(2, siblings(3))], 1),
     "two texts at the limit, two workers": (COLLECT, [GREAT, text(1, siblings(3))], 1),
